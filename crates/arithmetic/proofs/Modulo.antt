@@ -2,7 +2,7 @@
 -- and that answers are elements. Assumes nothing.
 use mathlib.Core.Path.{_≡_, refl, sym, ap, _∙_}
 use Prim.Native.Nat.{ℕ, zero, suc, _+_, _-_, _*_, _%_, _<_}
-use native.Mathlib.Nat.{mod-mod, mod-lt, mod-eq-of-lt, zero-mod, add-suc, add-zero, zero-add}
+use native.Mathlib.Nat.{mod-mod, mod-lt, mod-eq-of-lt, zero-mod, suc-add, zero-add}
 use native.Mathlib.Omega.{arith}
 use Rattle.arithmetic.specs.Modulo.{add, mul, neg, sub, pow}
 use Rattle.arithmetic.proofs.Ring.{Term, at, _⊕_, _⊗_, ⊖_, same}
@@ -65,13 +65,29 @@ unfolding pow
 pow-below n a zero h = mod-lt 1 h
 pow-below n a (suc e) h = mul-below n a (pow n a e) h
 
+-- a power is its own remainder
+pow-reduced : (n a e : ℕ) → pow n a e % n ≡ pow n a e
+unfolding pow
+pow-reduced n a zero = mod-mod 1 n
+pow-reduced n a (suc e) = mod-mod (a * pow n a e) n
+
 pub pow-add : (n a d e : ℕ) → pow n a (d + e) ≡ mul n (pow n a d) (pow n a e)
 unfolding pow
-pow-add n a zero e = ?z
-pow-add n a (suc d) e = ?s
+pow-add n a zero e =
+    ap (pow n a) (zero-add e) ∙ (sym (pow-reduced n a e) ∙ same n (at (pow n a e)) ((at 1 ⊕ at 0) ⊗ at (pow n a e)) 0 0 (omega arith) ∙ ap (λ (x : ℕ). mul n x (pow n a e)) (add-zero-mod n 1))
+pow-add n a (suc d) e =
+    ap (pow n a) (suc-add d e)
+    ∙ (ap (mul n a) (pow-add n a d e)
+    ∙ same n (at a ⊗ (at (pow n a d) ⊗ at (pow n a e))) (at a ⊗ at (pow n a d) ⊗ at (pow n a e)) 0 0 (omega arith))
 
--- a power by halves: the square of a, to half the exponent
+suc-suc : (e : ℕ) → suc (suc (e + e)) ≡ suc e + suc e
+suc-suc e = omega arith
+
+-- a power of a square is a power with the exponent doubled
 pub pow-square : (n a e : ℕ) → pow n (mul n a a) e ≡ pow n a (e + e)
 unfolding pow
 pow-square n a zero = refl
-pow-square n a (suc e) = ?
+pow-square n a (suc e) =
+    ap (mul n (mul n a a)) (pow-square n a e)
+    ∙ (same n (at a ⊗ at a ⊗ at (pow n a (e + e))) (at a ⊗ (at a ⊗ at (pow n a (e + e)))) 0 0 (omega arith)
+    ∙ ap (pow n a) (suc-suc e))
