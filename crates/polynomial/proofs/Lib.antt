@@ -1,0 +1,7 @@
+-- The laws of polynomials modulo n.
+--   Value     Horner's rule; the value of a sum and of a product
+--   Shape     how many coefficients a sum and a product have, and that they are elements
+--   Roots     two different polynomials of k + 1 coefficients agree at no more than k elements of a prime field
+pub mod Value
+pub mod Shape
+pub mod Roots
