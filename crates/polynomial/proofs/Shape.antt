@@ -30,9 +30,11 @@ length-times-all n (p ∷ ps) h =
     omega (arith, length-times n p (timesAll n ps) (omega arith) (omega arith))
 
 -- a sum of polynomials of one length, at least one of them, has that length
-pub length-plus-all : (n k : ℕ) (p : List ℕ) (ps : List (List ℕ)) → Every (λ (q : List ℕ). length q ≡ k) (p ∷ ps) → length (plusAll n (p ∷ ps)) ≡ k
-length-plus-all n k p [] h = omega (arith, length-plus n p [], h .0)
-length-plus-all n k p (q ∷ ps) h = omega (arith, length-plus n p (plusAll n (q ∷ ps)), length-plus-all n k q ps (h .1), h .0)
+pub length-plus-all : (n k : ℕ) (ps : List (List ℕ)) → 0 < length ps → Every (λ (q : List ℕ). length q ≡ k) ps → length (plusAll n ps) ≡ k
+length-plus-all n k [] h u = absurd (omega arith)
+length-plus-all n k (p ∷ []) h u = omega (arith, length-plus n p [], u .0)
+length-plus-all n k (p ∷ q ∷ ps) h u =
+    omega (arith, length-plus n p (plusAll n (q ∷ ps)), length-plus-all n k (q ∷ ps) (omega arith) (u .1), u .0)
 
 pub elements-plus : (n : ℕ) → 0 < n → (p q : List ℕ) → Elements n p → Elements n q → Elements n (plus n p q)
 elements-plus n h [] q u v = v

@@ -1,0 +1,12 @@
+-- The laws of the protocol, over any modulus n.
+--   Corners       the corners of m variables have m members, 0 or 1, and indices below 2^m, in order
+--   Extension     an extension has degree at most 1 in each variable
+--   Folding       binding the first variable is folding; an extension agrees with its table at the corners
+--   Rounds        a true polynomial has the values that the document says, and is the only one; its values at 0 and 1
+--   Completeness  Soundness   the demands of specs/Demands
+pub mod Corners
+pub mod Extension
+pub mod Folding
+pub mod Rounds
+pub mod Completeness
+pub mod Soundness

@@ -1,0 +1,15 @@
+-- The sumcheck protocol over any modulus n, as documents 01 to 003 have it.
+--   Corners     the corners of {0,1}^m, and the index of a corner
+--   Extension   the extension of a table
+--   Function    f, the product of the extensions; its true sum
+--   Rounds      the true polynomials
+--   Protocol    the checker's verdict
+--   Demands     what is demanded: demands 2 and 3 as statements
+--   Folding     halving a table by a challenge: not the document's words, and cited by no promise of an entry
+pub mod Corners
+pub mod Extension
+pub mod Function
+pub mod Rounds
+pub mod Protocol
+pub mod Demands
+pub mod Folding
