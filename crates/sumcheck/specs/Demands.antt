@@ -37,17 +37,17 @@ pub record Lucky (n : ℕ) (tables : List (List ℕ)) (challenges : List ℕ) (m
       → length xs ≤ length tables
 
 -- a true claim is accepted with the true polynomials, whatever the challenges
-pub Complete : Type 0
+unfoldable pub Complete : Type 0
 Complete = (n : ℕ) → 0 < n → (tables : List (List ℕ)) (challenges : List ℕ)
     → verdict n tables (trueSum n tables (length challenges)) challenges (truePolynomials n tables challenges) ≡ accepted
 
 -- a false claim that is accepted had a lucky round
-pub Sound : Type 0
+unfoldable pub Sound : Type 0
 Sound = (n : ℕ) → Prime n → (tables : List (List ℕ)) (claim : ℕ) (challenges : List ℕ) (messages : List (List ℕ))
     → WellFormed n tables challenges messages → (claim ≡ trueSum n tables (length challenges) → ⊥)
     → verdict n tables claim challenges messages ≡ accepted → (j : ℕ) × Lucky n tables challenges messages j
 
 -- with no variables a false claim is never accepted
-pub NoVariables : Type 0
+unfoldable pub NoVariables : Type 0
 NoVariables = (n : ℕ) (tables : List (List ℕ)) (claim : ℕ) (messages : List (List ℕ))
     → (claim ≡ trueSum n tables 0 → ⊥) → verdict n tables claim [] messages ≡ accepted → ⊥
