@@ -1,0 +1,73 @@
+-- The sums done by hand (document 01): one table, and one statement that covers it. To add a case is to add a line to the table.
+use mathlib.Core.Path.{_≡_}
+use mathlib.Core.List.{List, [], _∷_}
+use Prim.Native.Nat.{ℕ}
+use Rattle.polynomial.specs.Elements.{Every}
+use Rattle.sumcheck.specs.Function.{f, trueSum}
+use Rattle.sumcheck.specs.Rounds.{truePolynomial}
+use Rattle.sumcheck.specs.Protocol.{Rounds, reached, failed, rounds, Verdict, accepted, rejected, verdict}
+
+-- a case: the modulus, the tables, what is asked, and the answer
+pub data Case : Type 0 where
+  -- the true sum over so many variables
+  sum : (n : ℕ) (tables : List (List ℕ)) (vars answer : ℕ) → Case
+  -- f at a point
+  at : (n : ℕ) (tables : List (List ℕ)) (point : List ℕ) (answer : ℕ) → Case
+  -- the true polynomial after so many challenges, with so many variables behind it
+  round : (n : ℕ) (tables : List (List ℕ)) (challenges : List ℕ) (rest : ℕ) (answer : List ℕ) → Case
+  -- the verdict on a claim, challenges and messages
+  check : (n : ℕ) (tables : List (List ℕ)) (claim : ℕ) (challenges : List ℕ) (messages : List (List ℕ)) (answer : Verdict) → Case
+  -- what the rounds come to, without tables
+  last : (n claim : ℕ) (challenges : List ℕ) (messages : List (List ℕ)) (answer : Rounds) → Case
+
+-- what a case says
+abbrev pub Holds : Case → Type 0
+Holds (sum n tables vars answer) = trueSum n tables vars ≡ answer
+Holds (at n tables point answer) = f n tables point ≡ answer
+Holds (round n tables challenges rest answer) = truePolynomial n tables challenges rest ≡ answer
+Holds (check n tables claim challenges messages answer) = verdict n tables claim challenges messages ≡ answer
+Holds (last n claim challenges messages answer) = rounds n claim challenges messages ≡ answer
+
+-- 2^31 - 1
+abbrev p : ℕ
+p = 2147483647
+
+-- the table 3, 4, 1, 2 of document 002
+abbrev t : List ℕ
+t = 3 ∷ 4 ∷ 1 ∷ 2 ∷ []
+
+-- the table 0, 1, 2, 0 of document 002
+abbrev u : List ℕ
+u = 0 ∷ 1 ∷ 2 ∷ 0 ∷ []
+
+-- the false claim's messages of P10 and P11
+abbrev lie : List (List ℕ)
+lie = (7 ∷ 2147483644 ∷ []) ∷ (3 ∷ 1 ∷ []) ∷ []
+
+abbrev pub cases : List Case
+cases =
+    -- P1, P2, P3, P4
+    sum 11 (t ∷ []) 2 10
+    ∷ at 11 (t ∷ []) (5 ∷ 2 ∷ []) 6
+    ∷ round 11 (t ∷ []) [] 1 (7 ∷ 7 ∷ [])
+    ∷ round 11 (t ∷ []) (5 ∷ []) 0 (4 ∷ 1 ∷ [])
+    -- P5, P6
+    ∷ at 13 (u ∷ []) (3 ∷ 1 ∷ []) 11
+    ∷ sum 5 ((1 ∷ 2 ∷ 2 ∷ 3 ∷ []) ∷ []) 2 3
+    ∷ at 5 ((1 ∷ 2 ∷ 2 ∷ 3 ∷ []) ∷ []) (2 ∷ 4 ∷ []) 2
+    -- P7, P8
+    ∷ sum p (u ∷ t ∷ []) 2 6
+    ∷ round p (u ∷ t ∷ []) [] 1 (4 ∷ 0 ∷ 2147483645 ∷ [])
+    ∷ round p (u ∷ t ∷ []) (3 ∷ []) 0 (2147483629 ∷ 30 ∷ 2147483639 ∷ [])
+    -- P10: challenges 0, 9; P11: challenges 5, 9
+    ∷ sum p (t ∷ []) 2 10
+    ∷ check p (t ∷ []) 11 (0 ∷ 9 ∷ []) lie accepted
+    ∷ check p (t ∷ []) 11 (5 ∷ 9 ∷ []) lie (rejected 2)
+    -- P12
+    ∷ check p ((5 ∷ []) ∷ (7 ∷ []) ∷ []) 35 [] [] accepted
+    ∷ check p ((5 ∷ []) ∷ (7 ∷ []) ∷ []) 36 [] [] (rejected 0)
+    ∷ []
+
+-- every case of the table holds
+unfoldable pub EveryCase : Type 0
+EveryCase = Every Holds cases
