@@ -3,12 +3,13 @@
 use mathlib.Core.Bool.{Bool, true, false}
 use mathlib.Core.List.{List, [], _∷_}
 use Prim.Native.Nat.{ℕ}
+use lib.Dec.{leb}
 
 -- a refusal's number and the test that calls for it
 pub data Rule : Type 0 where
   _when_ : ℕ → Bool → Rule
 
-infix 40 _when_
+infix 70 _when_
 -- what an entry answers: a refusal's number, or a value
 pub data Answer (A : Type 0) : Type 0 where
   refused : ℕ → Answer A
@@ -18,6 +19,15 @@ pub data Answer (A : Type 0) : Type 0 where
 abbrev pub choose : {A : Type 0} → Bool → A → A → A
 choose true a b = a
 choose false a b = b
+
+-- one of the two holds
+abbrev pub either : Bool → Bool → Bool
+either a b = choose a true b
+
+-- some number of the list is not below n: no element (document 01, "Terms")
+abbrev pub outside : ℕ → List ℕ → Bool
+outside n [] = false
+outside n (x ∷ xs) = either (leb n x) (outside n xs)
 
 -- the number of the first refusal whose test holds; 0 if none does
 abbrev pub first : List Rule → ℕ

@@ -1,7 +1,5 @@
 -- The limits of document 01, "Terms" and "When a call is turned down", once for all specifications.
-use mathlib.Core.Bool.{Bool, true, false}
 use Prim.Native.Nat.{ℕ}
-use lib.Dec.{ltb, eqb}
 
 -- vars is 0 to 16
 abbrev pub maxVars : ℕ

@@ -1,0 +1,3 @@
+-- The laws of the field in u32.
+--   Bounds   what fits a u64
+pub mod Bounds

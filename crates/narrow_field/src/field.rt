@@ -1,0 +1,91 @@
+// The six operations of the field, with refusal 5 where an operand is no element and refusal 6 for the inverse of 0 (document 01).
+ghost use mathlib.Core.Path.{_≡_};
+ghost use mathlib.Core.List.{[], _∷_};
+ghost use Rattle.refusals.specs.First.{outside};
+ghost use Rattle.narrow_field.specs.Narrow.{p};
+ghost use Rattle.narrow_field.specs.Field.{said, sumOf, differenceOf, negativeOf, productOf, powerOf, inverseOf};
+use super::Answer;
+use super::P;
+use super::euclid::inverse_of;
+use super::modulo::less;
+use super::modulo::minus;
+use super::modulo::plus;
+use super::modulo::times;
+use super::modulo::to_power;
+
+// Whether x is no element.
+pub fn is_outside(x: u32) -> bool
+    ensures { λ r. ⌜ r ≡ outside p (x ∷ []) ⌝ }
+{
+    if P <= x { true } else { false }
+}
+
+// Whether one of two numbers is no element.
+fn one_outside(a: u32, b: u32) -> bool
+    ensures { λ r. ⌜ r ≡ outside p (a ∷ b ∷ []) ⌝ }
+{
+    if P <= a { true } else { is_outside(b) }
+}
+
+// a + b.
+pub fn sum(a: u32, b: u32) -> Answer
+    ensures { λ r. ⌜ said r ≡ sumOf a b ⌝ }
+{
+    if one_outside(a, b) {
+        return Answer::Refused(5);
+    }
+    Answer::Given(plus(a, b))
+}
+
+// a - b.
+pub fn difference(a: u32, b: u32) -> Answer
+    ensures { λ r. ⌜ said r ≡ differenceOf a b ⌝ }
+{
+    if one_outside(a, b) {
+        return Answer::Refused(5);
+    }
+    Answer::Given(less(a, b))
+}
+
+// -a.
+pub fn negative(a: u32) -> Answer
+    ensures { λ r. ⌜ said r ≡ negativeOf a ⌝ }
+{
+    if is_outside(a) {
+        return Answer::Refused(5);
+    }
+    Answer::Given(minus(a))
+}
+
+// a · b.
+pub fn product(a: u32, b: u32) -> Answer
+    ensures { λ r. ⌜ said r ≡ productOf a b ⌝ }
+{
+    if one_outside(a, b) {
+        return Answer::Refused(5);
+    }
+    Answer::Given(times(a, b))
+}
+
+// a to the power e; 0 to the power 0 is 1.
+pub fn power(a: u32, e: u64) -> Answer
+    ensures { λ r. ⌜ said r ≡ powerOf a e ⌝ }
+{
+    if is_outside(a) {
+        return Answer::Refused(5);
+    }
+    Answer::Given(to_power(a, e))
+}
+
+// The element that times a gives 1.
+pub fn inverse(a: u32) -> Answer
+    ensures { λ r. ⌜ said r ≡ inverseOf a ⌝ }
+{
+    if P <= a {
+        return Answer::Refused(5);
+    }
+    if a == 0 {
+        return Answer::Refused(6);
+    }
+    Answer::Given(inverse_of(a))
+}

@@ -1,0 +1,14 @@
+// The field modulo p = 2^31 - 1 in u32 (document 01). `modulo` has total helpers, right for every u32; `euclid` the inverse; `field` has the
+// six operations with their refusals.
+mod euclid;
+pub mod field;
+pub mod modulo;
+
+// The modulus, 2^31 - 1.
+pub const P: u32 = 2147483647;
+
+// What an operation answers: a value, or the number of a refusal.
+pub enum Answer {
+    Given(u32),
+    Refused(u32),
+}
