@@ -1,12 +1,11 @@
-// The six operations of the field, with refusal 5 where an operand is no element and refusal 6 for the inverse of 0 (document 01).
+// Five operations of the field, with refusal 5 where an operand is no element (document 01); the sixth is in `inverse`.
 ghost use mathlib.Core.Path.{_≡_};
 ghost use mathlib.Core.List.{[], _∷_};
 ghost use Rattle.refusals.specs.First.{outside};
 ghost use Rattle.narrow_field.specs.Narrow.{p};
-ghost use Rattle.narrow_field.specs.Field.{said, sumOf, differenceOf, negativeOf, productOf, powerOf, inverseOf};
+ghost use Rattle.narrow_field.specs.Field.{said, sumOf, differenceOf, negativeOf, productOf, powerOf};
 use super::Answer;
 use super::P;
-use super::euclid::inverse_of;
 use super::modulo::less;
 use super::modulo::minus;
 use super::modulo::plus;
@@ -75,17 +74,4 @@ pub fn power(a: u32, e: u64) -> Answer
         return Answer::Refused(5);
     }
     Answer::Given(to_power(a, e))
-}
-
-// The element that times a gives 1.
-pub fn inverse(a: u32) -> Answer
-    ensures { λ r. ⌜ said r ≡ inverseOf a ⌝ }
-{
-    if P <= a {
-        return Answer::Refused(5);
-    }
-    if a == 0 {
-        return Answer::Refused(6);
-    }
-    Answer::Given(inverse_of(a))
 }

@@ -1,7 +1,7 @@
-// The field modulo p = 2^31 - 1 in u32 (document 01). `modulo` has total helpers, right for every u32; `euclid` the inverse; `field` has the
-// six operations with their refusals.
-mod euclid;
+// The field modulo p = 2^31 - 1 in u32 (document 01). `modulo` has total helpers, right for every u32; `field` and
+// `inverse` have the six operations with their refusals.
 pub mod field;
+pub mod inverse;
 pub mod modulo;
 
 // The modulus, 2^31 - 1.

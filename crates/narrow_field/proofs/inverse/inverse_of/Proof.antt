@@ -1,4 +1,4 @@
--- `narrow_field::euclid::inverse_of` meets its contract: the loop's invariant is Euclid's, and p is prime. Assumes nothing.
+-- `narrow_field::inverse::inverse_of` meets its contract: the loop's invariant is Euclid's, and p is prime. Assumes nothing.
 use mathlib.Core.Path.{_≡_, sym, ap, subst, _∙_}
 use Prim.Native.Nat.{ℕ, _/_, _%_}
 use native.Mathlib.Nat.{mod-lt}
@@ -8,8 +8,8 @@ use Rattle.arithmetic.proofs.Mersenne.{prime-31}
 use Rattle.narrow_field.specs.Narrow.{p}
 use borrow.Author.Needs.{needs}
 use native.Mathlib.Omega.{arith}
-use Rattle.narrow_field.proofs.euclid.inverse_of.Statement.{statement}
-use Rattle.narrow_field.proofs.euclid.inverse_of.Tie as tie
+use Rattle.narrow_field.proofs.inverse.inverse_of.Statement.{statement}
+use Rattle.narrow_field.proofs.inverse.inverse_of.Tie as tie
 
 abbrev Inv-loop : tie.InvT-loop
 Inv-loop a first₀ second₀ before₀ coefficient₀ first second before coefficient = Euclid p a first second before coefficient

@@ -1,4 +1,4 @@
--- `narrow_field::field::inverse` meets its contract: refusal 5, then 6, each by its test; else the value. Assumes nothing.
+-- `narrow_field::inverse::inverse` meets its contract: refusal 5, then 6, each by its test; else the value. Assumes nothing.
 use mathlib.Core.Path.{sym, ap, _∙_}
 use mathlib.Core.List.{[], _∷_}
 use borrow.Author.Tests.{eq-eqb, ne-eqb}
@@ -7,8 +7,8 @@ use Rattle.refusals.specs.First.{_when_, given}
 use Rattle.refusals.proofs.First.{turned, passed, outside-here, outside-next}
 use Rattle.narrow_field.specs.Narrow.{p}
 use borrow.Author.Needs.{needs}
-use Rattle.narrow_field.proofs.field.inverse.Statement.{statement}
-use Rattle.narrow_field.proofs.field.inverse.Tie as tie
+use Rattle.narrow_field.proofs.inverse.inverse.Statement.{statement}
+use Rattle.narrow_field.proofs.inverse.inverse.Tie as tie
 
 returns : tie.Need-returns
 returns c = turned 5 (6 when eqb (c .before .args .a) 0 ∷ []) _ (sym (outside-here p [] (c .if1 .taken)))
