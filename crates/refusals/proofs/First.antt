@@ -28,3 +28,20 @@ outside-here n {x} xs h = sym (choose-true true (outside n xs) (le-leb n x h))
 -- an element is passed
 pub outside-next : (n : ℕ) {x : ℕ} (xs : List ℕ) → x < n → outside n xs ≡ outside n (x ∷ xs)
 outside-next n {x} xs h = sym (choose-false true (outside n xs) (lt-leb n x h))
+
+-- the same of the number alone
+pub numbered : (number : ℕ) {test : Bool} (rules : List Rule) → test ≡ true → number ≡ first ((number when test) ∷ rules)
+numbered number rules e = sym (choose-true number (first rules) e)
+
+pub unnumbered : (number : ℕ) {test : Bool} (rules : List Rule) → test ≡ false → first rules ≡ first ((number when test) ∷ rules)
+unnumbered number rules e = sym (choose-false number (first rules) e)
+
+-- either of two tests
+pub either-left : {a : Bool} (b : Bool) → a ≡ true → either a b ≡ true
+either-left b e = choose-true true b e
+
+pub either-right : {a b : Bool} → a ≡ false → b ≡ true → either a b ≡ true
+either-right {a} {b} e f = choose-false true b e ∙ f
+
+pub either-none : {a b : Bool} → a ≡ false → b ≡ false → either a b ≡ false
+either-none {a} {b} e f = choose-false true b e ∙ f

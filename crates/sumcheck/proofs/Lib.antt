@@ -3,6 +3,7 @@
 --   Extension     an extension has degree at most 1 in each variable
 --   Folding       binding the first variable is folding; an extension agrees with its table at the corners
 --   Rounds        a true polynomial has the values that the document says, and is the only one; its values at 0 and 1
+--   Search        the walk for refusal 5: table by table, place by place
 --   Completeness  Soundness   the demands of specs/Demands
 pub mod Corners
 pub mod Extension
@@ -10,3 +11,4 @@ pub mod Folding
 pub mod Rounds
 pub mod Completeness
 pub mod Soundness
+pub mod Search

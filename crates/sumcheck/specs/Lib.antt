@@ -5,6 +5,8 @@
 --   Rounds      the true polynomials
 --   Protocol    the checker's verdict
 --   Demands     what is demanded: demands 2 and 3 as statements
+--   Lent        what a caller lends, and the tests that turn it down
+--   Entries     what each entry answers and leaves, refusals in order
 --   Folding     halving a table by a challenge: not the document's words, and cited by no promise of an entry
 pub mod Corners
 pub mod Extension
@@ -12,4 +14,6 @@ pub mod Function
 pub mod Rounds
 pub mod Protocol
 pub mod Demands
+pub mod Lent
+pub mod Entries
 pub mod Folding

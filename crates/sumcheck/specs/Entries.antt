@@ -1,0 +1,80 @@
+-- What each entry answers and what it leaves in what was lent, over the modulus n, refusals in document 01's order.
+use mathlib.Core.Bool.{Bool, true, false}
+use mathlib.Core.List.{List, [], _∷_, _++_}
+use Prim.Native.Nat.{ℕ, zero, suc, _+_, _*_, _^_}
+use lib.Dec.{eqb}
+use lib.ListN.{length, drop, replicate}
+use Rattle.refusals.specs.First.{Rule, _when_, Answer, decide, first, choose, either, outside}
+use Rattle.sumcheck.specs.Function.{f, trueSum}
+use Rattle.sumcheck.specs.Rounds.{truePolynomials}
+use Rattle.sumcheck.specs.Protocol.{Verdict, verdict, Rounds, rounds}
+use Rattle.sumcheck.specs.Lent.{join, tablesLength, messagesLength, tablesOf, messagesOf, badVars, badDegree, notLong, tooShort}
+
+-- the true sum of lent tables
+abbrev pub sumAnswer : ℕ → ℕ → ℕ → List ℕ → Answer ℕ
+sumAnswer n vars degree tables =
+    decide
+    (1 when badVars vars
+    ∷ 2 when badDegree degree
+    ∷ 3 when notLong (tablesLength vars degree) tables
+    ∷ 5 when outside n tables
+    ∷ [])
+    (trueSum n (tablesOf vars degree tables) vars)
+
+-- the value of f at a point
+abbrev pub valueAnswer : ℕ → ℕ → ℕ → List ℕ → List ℕ → Answer ℕ
+valueAnswer n vars degree tables point =
+    decide
+    (1 when badVars vars
+    ∷ 2 when badDegree degree
+    ∷ 3 when either (notLong (tablesLength vars degree) tables) (notLong vars point)
+    ∷ 5 when outside n (tables ++ point)
+    ∷ [])
+    (f n (tablesOf vars degree tables) point)
+
+-- the prover: the number of its refusal, 0 if none
+abbrev pub proverRefusal : ℕ → ℕ → ℕ → List ℕ → List ℕ → List ℕ → List ℕ → ℕ
+proverRefusal n vars degree tables challenges messages scratch =
+    first
+    (1 when badVars vars
+    ∷ 2 when badDegree degree
+    ∷ 3 when either (notLong (tablesLength vars degree) tables) (notLong vars challenges)
+    ∷ 4 when either (tooShort (messagesLength vars degree) messages) (tooShort (tablesLength vars degree) scratch)
+    ∷ 5 when outside n (tables ++ challenges)
+    ∷ [])
+
+-- what the lent message list holds afterwards: the true polynomials in its first m(k+1) places, its rest unchanged
+abbrev pub messagesAfter : ℕ → ℕ → ℕ → List ℕ → List ℕ → List ℕ → List ℕ → List ℕ
+messagesAfter n vars degree tables challenges messages scratch =
+    choose (eqb (proverRefusal n vars degree tables challenges messages scratch) 0)
+    (join (truePolynomials n (tablesOf vars degree tables) challenges) ++ drop (messagesLength vars degree) messages)
+    messages
+
+-- what scratch holds afterwards: 0 in its first k·2^m places, its rest unchanged
+abbrev pub scratchAfter : ℕ → ℕ → ℕ → List ℕ → List ℕ → List ℕ → List ℕ → List ℕ
+scratchAfter n vars degree tables challenges messages scratch =
+    choose (eqb (proverRefusal n vars degree tables challenges messages scratch) 0)
+    (replicate (tablesLength vars degree) 0 ++ drop (tablesLength vars degree) scratch)
+    scratch
+
+-- the checker with tables
+abbrev pub checkerAnswer : ℕ → ℕ → ℕ → List ℕ → ℕ → List ℕ → List ℕ → Answer Verdict
+checkerAnswer n vars degree tables claim challenges messages =
+    decide
+    (1 when badVars vars
+    ∷ 2 when badDegree degree
+    ∷ 3 when either (notLong (tablesLength vars degree) tables) (either (notLong vars challenges) (notLong (messagesLength vars degree) messages))
+    ∷ 5 when outside n (tables ++ claim ∷ challenges ++ messages)
+    ∷ [])
+    (verdict n (tablesOf vars degree tables) claim challenges (messagesOf vars degree messages))
+
+-- the checker without tables
+abbrev pub roundsAnswer : ℕ → ℕ → ℕ → ℕ → List ℕ → List ℕ → Answer Rounds
+roundsAnswer n vars degree claim challenges messages =
+    decide
+    (1 when badVars vars
+    ∷ 2 when badDegree degree
+    ∷ 3 when either (notLong vars challenges) (notLong (messagesLength vars degree) messages)
+    ∷ 5 when outside n (claim ∷ challenges ++ messages)
+    ∷ [])
+    (rounds n claim challenges (messagesOf vars degree messages))
