@@ -4,6 +4,7 @@
 --   Folding       binding the first variable is folding; an extension agrees with its table at the corners
 --   Rounds        a true polynomial has the values that the document says, and is the only one; its values at 0 and 1
 --   Search        the walk for refusal 5: table by table, place by place
+--   Walk          the rounds taken one by one from a lent message list
 --   Completeness  Soundness   the demands of specs/Demands
 pub mod Corners
 pub mod Extension
@@ -12,3 +13,4 @@ pub mod Rounds
 pub mod Completeness
 pub mod Soundness
 pub mod Search
+pub mod Walk
