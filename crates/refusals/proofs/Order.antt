@@ -7,6 +7,7 @@ use Prim.Native.Nat.{ℕ}
 use lib.Dec.{eqb, leb}
 use borrow.Author.Tests.{eq-eqb, ne-eqb, eqb-false}
 use Rattle.refusals.specs.First.{Rule, _when_, Answer, refused, given, choose, either, outside, first, decide}
+use Rattle.refusals.proofs.First.{unnumbered, either-left, either-right, either-none}
 
 -- no refusal has the number 0
 abbrev pub named : List Rule → Bool
@@ -68,3 +69,37 @@ outside-append n (x ∷ xs) ys = go (leb n x) (outside-append n xs ys)
         → either b (outside n (xs ++ ys)) ≡ either (either b (outside n xs)) (outside n ys)
     go true ih = refl
     go false ih = ih
+
+-- no test of a list of refusals holds
+abbrev pub Untested : List Rule → Type 0
+Untested [] = Unit {0}
+Untested ((number when test) ∷ rules) = (test ≡ false) × Untested rules
+
+-- a list of refusals gives the number 0 exactly where no test holds
+pub untested : (rules : List Rule) → named rules ≡ true → {k : ℕ} → k ≡ first rules → k ≡ 0 → Untested rules
+untested [] h e z = tt
+untested ((number when true) ∷ rules) h e z = absurd (eqb-false number 0 (named-here (eqb number 0) (named rules) h) (sym e ∙ z))
+untested ((number when false) ∷ rules) h e z = (refl, untested rules (named-next (eqb number 0) (named rules) h) e z)
+
+pub untested-none : (rules : List Rule) → Untested rules → 0 ≡ first rules
+untested-none [] u = refl
+untested-none ((number when test) ∷ rules) u = untested-none rules (u .1) ∙ unnumbered number rules (u .0)
+
+-- neither of two tests holds
+pub neither-left : (a b : Bool) → either a b ≡ false → a ≡ false
+neither-left true b e = e
+neither-left false b e = refl
+
+pub neither-right : (a b : Bool) → either a b ≡ false → b ≡ false
+neither-right true b e = cc
+neither-right false b e = e
+
+-- a search over one list after another, from what is known of each
+pub outside-left : (n : ℕ) (xs ys : List ℕ) → outside n xs ≡ true → outside n (xs ++ ys) ≡ true
+outside-left n xs ys e = outside-append n xs ys ∙ either-left (outside n ys) e
+
+pub outside-right : (n : ℕ) (xs ys : List ℕ) → outside n xs ≡ false → outside n ys ≡ true → outside n (xs ++ ys) ≡ true
+outside-right n xs ys e f = outside-append n xs ys ∙ either-right e f
+
+pub outside-none : (n : ℕ) (xs ys : List ℕ) → outside n xs ≡ false → outside n ys ≡ false → outside n (xs ++ ys) ≡ false
+outside-none n xs ys e f = outside-append n xs ys ∙ either-none e f

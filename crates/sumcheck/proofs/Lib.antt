@@ -5,6 +5,8 @@
 --   Rounds        a true polynomial has the values that the document says, and is the only one; its values at 0 and 1
 --   Search        the walk for refusal 5: table by table, place by place
 --   Walk          the rounds taken one by one from a lent message list
+--   Unrefused     what a call knows that was not refused
+--   Steps         the paths of opening, a step and closing
 --   Completeness  Soundness   the demands of specs/Demands
 pub mod Corners
 pub mod Extension
@@ -14,3 +16,5 @@ pub mod Completeness
 pub mod Soundness
 pub mod Search
 pub mod Walk
+pub mod Unrefused
+pub mod Steps

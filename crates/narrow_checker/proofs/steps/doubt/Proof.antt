@@ -1,0 +1,44 @@
+-- `narrow_checker::steps::doubt` meets its contract: refusals 1 and 2 by the shape, 5 by the test. Assumes nothing.
+use mathlib.Core.Path.{_≡_, refl, sym, _∙_}
+use mathlib.Core.List.{List, [], _∷_}
+use Prim.Native.Nat.{ℕ}
+use Rattle.refusals.specs.First.{Rule, _when_, first, outside}
+use Rattle.refusals.proofs.First.{numbered, unnumbered}
+use Rattle.refusals.proofs.Order.{first-turned, first-passed}
+use Rattle.sumcheck.specs.Lent.{badVars, badDegree}
+use Rattle.sumcheck.specs.Steps.{openingRules}
+use Rattle.narrow_field.specs.Narrow.{p}
+use borrow.Author.Needs.{needs}
+use Rattle.narrow_checker.proofs.steps.doubt.Statement.{statement}
+use Rattle.narrow_checker.proofs.steps.doubt.Tie as tie
+
+abbrev shapeRules : ℕ → ℕ → List Rule
+shapeRules vars degree = 1 when badVars vars ∷ 2 when badDegree degree ∷ []
+
+-- the shape is right
+shaped : (c : tie.Else1)
+    → first (5 when outside p (c .before .before .args .claim ∷ []) ∷ [])
+    ≡ first (openingRules p (c .before .before .args .vars) (c .before .before .args .degree) (c .before .before .args .claim))
+shaped c =
+    first-passed (shapeRules (c .before .before .args .vars) (c .before .before .args .degree)) (5 when outside p (c .before .before .args .claim ∷ []) ∷ []) refl
+    (c .before .shape .ensures) (c .if1 .left)
+
+shape-requires : tie.Need-shape-requires
+shape-requires c κs = search needs
+
+returns : tie.Need-returns
+returns c =
+    first-turned (shapeRules (c .before .before .args .vars) (c .before .before .args .degree)) (5 when outside p (c .before .before .args .claim ∷ []) ∷ [])
+    (c .before .shape .ensures) (c .if1 .taken)
+
+is-outside-requires : tie.Need-is-outside-requires
+is-outside-requires c κs = search needs
+
+returns-2 : tie.Need-returns-2
+returns-2 c = numbered 5 [] (sym (c .before .is-outside .ensures) ∙ c .if2 .taken) ∙ shaped (c .before .before)
+
+returns-3 : tie.Need-returns-3
+returns-3 c = unnumbered 5 [] (sym (c .before .is-outside .ensures) ∙ c .if2 .left) ∙ shaped (c .before .before)
+
+pub doubt-spec : {M : Type 1} → statement M
+doubt-spec = tie.close (tie.spec shape-requires returns is-outside-requires returns-2 returns-3)
