@@ -1,5 +1,6 @@
 // The checker over the narrow field (document 01): `whole` has it in one call, with tables and without, `steps` in steps, `part` the round part;
 // `round` has a round's coefficients as one array value.
+pub mod part;
 pub mod round;
 pub mod steps;
 

@@ -8,11 +8,21 @@ use lib.Dec.{eqb, ltb, leb}
 use lib.ListN.{length}
 use borrow.Author.Tests.{ltb-false, leb-false, eqb-true, eqb-false, not-false, eq-eqb, ne-eqb, lt-leb}
 use Rattle.refusals.specs.Limits.{maxVars, maxDegree}
-use Rattle.refusals.specs.First.{either, outside}
+use Rattle.refusals.specs.First.{Rule, _when_, first, either, outside}
 use Rattle.refusals.proofs.First.{either-none}
-use Rattle.refusals.proofs.Order.{neither-left, neither-right}
+use Rattle.refusals.proofs.Order.{first-turned, first-passed, neither-left, neither-right}
 use Rattle.polynomial.specs.Elements.{Elements}
 use Rattle.sumcheck.specs.Lent.{badVars, badDegree, notLong}
+
+-- the shape is judged first
+abbrev pub shapeRules : ℕ → ℕ → List Rule
+shapeRules vars degree = 1 when badVars vars ∷ 2 when badDegree degree ∷ []
+
+pub shape-turned : (vars degree : ℕ) (rest : List Rule) {k : ℕ} → k ≡ first (shapeRules vars degree) → (k ≡ 0 → ⊥) → k ≡ first (shapeRules vars degree ++ rest)
+shape-turned vars degree rest e z = first-turned (shapeRules vars degree) rest e z
+
+pub shape-passed : (vars degree : ℕ) (rest : List Rule) {k : ℕ} → k ≡ first (shapeRules vars degree) → k ≡ 0 → first rest ≡ first (shapeRules vars degree ++ rest)
+shape-passed vars degree rest e z = first-passed (shapeRules vars degree) rest refl e z
 
 pub vars-within : (vars : ℕ) → badVars vars ≡ false → vars ≤ maxVars
 vars-within vars e = ltb-false maxVars vars e
