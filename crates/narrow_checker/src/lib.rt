@@ -3,10 +3,18 @@
 pub mod part;
 pub mod round;
 pub mod steps;
+pub mod whole;
 
 // What the checker and closing answer.
 pub enum Verdict {
     Accepted,
+    Rejected(u32),
+    Refused(u32),
+}
+
+// What the checker without tables answers: the last value, the first round whose sum fails, or the number of a refusal.
+pub enum Rounds {
+    Reached(u32),
     Rejected(u32),
     Refused(u32),
 }

@@ -7,7 +7,7 @@ ghost use Rattle.narrow_checker.specs.Place.{placeAt};
 use narrow_tables::judge::shape;
 
 // x as a usize.
-fn wide(x: u32) -> usize
+pub fn wide(x: u32) -> usize
     ensures { λ r. ⌜ r ≡ x ⌝ }
 {
     x as usize

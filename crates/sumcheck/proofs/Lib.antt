@@ -6,6 +6,7 @@
 --   Search        the walk for refusal 5: table by table, place by place
 --   Walk          the rounds taken one by one from a lent message list
 --   Unrefused     what a call knows that was not refused
+--   Entries       what the checker knows of what was lent to it
 --   Part          where the round part lies, and that it is the message that is judged
 --   Steps         the paths of opening, a step and closing
 --   Completeness  Soundness   the demands of specs/Demands
@@ -19,4 +20,5 @@ pub mod Search
 pub mod Walk
 pub mod Unrefused
 pub mod Part
+pub mod Entries
 pub mod Steps

@@ -11,8 +11,6 @@ use borrow.Author.Tests.{eqb-false, ltb-false}
 use Rattle.polynomial.specs.Elements.{Elements}
 use Rattle.polynomial.specs.Polynomial.{value}
 use Rattle.polynomial.specs.Array.{padded}
-use Rattle.polynomial.proofs.Array.{padded-value}
-use Rattle.arithmetic.specs.Modulo.{add}
 use Rattle.refusals.specs.Limits.{maxVars, maxDegree}
 use Rattle.refusals.specs.First.{Rule, _when_, Answer, refused, given, decide, first, choose, either, outside}
 use Rattle.refusals.proofs.First.{choose-true, choose-false}
@@ -20,6 +18,7 @@ use Rattle.refusals.proofs.Order.{first-turned, first-passed, refused-by, given
 use Rattle.sumcheck.specs.Protocol.{fits, Verdict, accepted, rejected, final, reached}
 use Rattle.sumcheck.specs.Lent.{notLong}
 use Rattle.sumcheck.specs.Steps.{State, Back, complete, over, forged, openingRules, Opened, opened, fresh, opening, Judged, fitted, rejects, stepRules, onward, marked, judged, moved, step, closingRules, closed, closing}
+use Rattle.sumcheck.proofs.Walk.{array-fits, array-value}
 use Rattle.sumcheck.proofs.Unrefused.{vars-within, degree-within, is-long, is-inside}
 
 -- what a call hands back, part by part
@@ -85,12 +84,6 @@ unrefused n s message challenge e z =
       elements = given .1;
     }
 
--- a message in an array has its sum and its values
-array-fits : (n : ℕ) (message cs : List ℕ) (c : ℕ) → cs ≡ padded (suc maxDegree) message → length message ≤ suc maxDegree → fits n cs c ≡ fits n message c
-array-fits n message cs c e h =
-    ap (λ (l : List ℕ). fits n l c) e
-    ∙ ap₂ (λ (a b : ℕ). eqb (add n a b) c) (padded-value n (suc maxDegree) message 0 h) (padded-value n (suc maxDegree) message 1 h)
-
 module _ (n : ℕ) (s : State) (message : List ℕ) (challenge : ℕ) {k : ℕ} (e : k ≡ first (stepRules n s message challenge)) where
   pub step-refused : (k ≡ 0 → ⊥) → record { state = s; outcome = refused k } ≡ step n s message challenge
   step-refused z =
@@ -116,7 +109,7 @@ module _ (n : ℕ) (s : State) (message : List ℕ) (challenge : ℕ) {k : ℕ} 
       back
       (ap₂ (λ (i c : ℕ). record { vars = s .vars; degree = s .degree; taken = i; claim = c; mark = false })
       (add-one (s .taken))
-      (w ∙ (ap (λ (l : List ℕ). value n l challenge) a ∙ padded-value n (suc maxDegree) message challenge (omega (arith, u .long, u .degree))))
+      (w ∙ array-value n message cs challenge a (omega (arith, u .long, u .degree)))
       ∙ sym (choose-true (onward n s message challenge) (marked s) true-fit))
       (ap given (sym (choose-true fitted (rejects (suc (s .taken))) true-fit)))
       ∙ step-given z

@@ -18,11 +18,11 @@ add-result : tie.Need-add-result
 add-result c = search needs
 
 mul-result : tie.Need-mul-result
-mul-result c = 
+mul-result c =
     omega (arith, mul-le-mul {n₁ = c .before .wide .result} {m₁ = c .wide2 .result + 1} {n₂ = 4294967295} {m₂ = 4294967296} (omega arith) (omega arith))
 
 returns : tie.Need-returns
-returns c = 
+returns c =
     ap₂ {B = ℕ} (λ (a b : ℕ). a * b) (c .before .wide .ensures) (ap (λ (b : ℕ). b + 1) (c .wide2 .ensures) ∙ add-one (c .before .before .args .degree))
 
 pub messages-length-spec : {M : Type 1} → statement M

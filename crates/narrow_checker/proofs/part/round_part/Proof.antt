@@ -45,7 +45,7 @@ part-result-end : tie.Need-part-result-end
 part-result-end c = search needs
 
 returns : tie.Need-returns
-returns c = 
+returns c =
     let a = c .before .before .before .before .args in
     let k = c .before .before .round-part-refusal .ensures in
     let none : 0 ≡ partStart (a .vars) (a .degree) (a .messages .now) (a .round) = part-none (a .vars) (a .degree) (a .messages .now) (a .round) k (c .before .if1 .taken) in
@@ -58,7 +58,7 @@ add-width : tie.Need-add-width
 add-width c = search needs
 
 sub-wide : tie.Need-sub-wide
-sub-wide c = 
+sub-wide c =
     let a = c .before .before .before .before .args in
     part-some (a .vars) (a .degree) (a .messages .now) (a .round) (c .before .before .round-part-refusal .ensures) (c .before .if1 .left)
 
@@ -90,9 +90,9 @@ returns-2 c =
     let k = w .before .before .before .round-part-refusal .ensures in
     let z = w .before .before .if1 .left in
     let long : w .wide2 .result * (w .before .wide .result + 1) + (w .before .wide .result + 1) - w .wide2 .result * (w .before .wide .result + 1) ≡ suc (a .degree) =
-        omega (arith, width w) in
+    omega (arith, width w) in
     let offset : w .wide2 .result * (w .before .wide .result + 1) * 4 + a .messages .ptr .1 ≡ a .messages .ptr .1 + 4 * partStart (a .vars) (a .degree) (a .messages .now) (a .round) =
-        omega (arith, start w, part-start (a .vars) (a .degree) (a .messages .now) (a .round) k z) in (
+    omega (arith, start w, part-start (a .vars) (a .degree) (a .messages .now) (a .round) k z) in (
       ap₂ {B = ℕ} (λ (l i : ℕ). take l (drop i (a .messages .now))) long (start w) ∙ part-given (a .vars) (a .degree) (a .messages .now) (a .round) k z,
       ap (λ (o : ℕ). (a .messages .ptr .0, o)) offset,
     )

@@ -43,7 +43,7 @@ shape-requires : tie.Need-shape-requires
 shape-requires c κs = search needs
 
 returns : tie.Need-returns
-returns c = 
+returns c =
     let a = c .before .before .before .args in
     shape-turned (a .vars) (a .degree)
     (3 when notLong (messagesLength (a .vars) (a .degree)) (a .messages .now) ∷ asked (a .vars) (a .round))
@@ -53,7 +53,7 @@ messages-length-requires : tie.Need-messages-length-requires
 messages-length-requires c κs = search needs
 
 returns-2 : tie.Need-returns-2
-returns-2 c = 
+returns-2 c =
     let a = c .before .before .before .before .before .args in
     numbered 3 (asked (a .vars) (a .round))
     (not-long (messagesLength (a .vars) (a .degree)) (a .messages .now)
@@ -61,17 +61,17 @@ returns-2 c =
     ∙ shaped (c .before .before)
 
 returns-3 : tie.Need-returns-3
-returns-3 c = 
+returns-3 c =
     let a = c .before .before .before .before .before .before .args in
     numbered 8 [] (either-left (ltb (a .vars) (a .round)) (eq-eqb (a .round) 0 (c .if3 .taken))) ∙ long (c .before)
 
 returns-4 : tie.Need-returns-4
-returns-4 c = 
+returns-4 c =
     let a = c .before .before .before .before .before .before .before .args in
     numbered 8 [] (either-right (ne-eqb (a .round) 0 (c .before .if3 .left)) (lt-ltb (a .vars) (a .round) (c .if4 .taken))) ∙ long (c .before .before)
 
 returns-5 : tie.Need-returns-5
-returns-5 c = 
+returns-5 c =
     let a = c .before .before .before .before .before .before .before .args in
     unnumbered 8 [] (either-none (ne-eqb (a .round) 0 (c .before .if3 .left)) (le-ltb (a .vars) (a .round) (c .if4 .left))) ∙ long (c .before .before)
 

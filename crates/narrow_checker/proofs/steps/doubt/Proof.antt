@@ -1,26 +1,21 @@
 -- `narrow_checker::steps::doubt` meets its contract: refusals 1 and 2 by the shape, 5 by the test. Assumes nothing.
-use mathlib.Core.Path.{_≡_, refl, sym, _∙_}
-use mathlib.Core.List.{List, [], _∷_}
-use Prim.Native.Nat.{ℕ}
-use Rattle.refusals.specs.First.{Rule, _when_, first, outside}
+use mathlib.Core.Path.{_≡_, sym, _∙_}
+use mathlib.Core.List.{[], _∷_}
+use Rattle.refusals.specs.First.{_when_, first, outside}
 use Rattle.refusals.proofs.First.{numbered, unnumbered}
-use Rattle.refusals.proofs.Order.{first-turned, first-passed}
-use Rattle.sumcheck.specs.Lent.{badVars, badDegree}
 use Rattle.sumcheck.specs.Steps.{openingRules}
+use Rattle.sumcheck.proofs.Unrefused.{shape-turned, shape-passed}
 use Rattle.narrow_field.specs.Narrow.{p}
 use borrow.Author.Needs.{needs}
 use Rattle.narrow_checker.proofs.steps.doubt.Statement.{statement}
 use Rattle.narrow_checker.proofs.steps.doubt.Tie as tie
-
-abbrev shapeRules : ℕ → ℕ → List Rule
-shapeRules vars degree = 1 when badVars vars ∷ 2 when badDegree degree ∷ []
 
 -- the shape is right
 shaped : (c : tie.Else1)
     → first (5 when outside p (c .before .before .args .claim ∷ []) ∷ [])
     ≡ first (openingRules p (c .before .before .args .vars) (c .before .before .args .degree) (c .before .before .args .claim))
 shaped c =
-    first-passed (shapeRules (c .before .before .args .vars) (c .before .before .args .degree)) (5 when outside p (c .before .before .args .claim ∷ []) ∷ []) refl
+    shape-passed (c .before .before .args .vars) (c .before .before .args .degree) (5 when outside p (c .before .before .args .claim ∷ []) ∷ [])
     (c .before .shape .ensures) (c .if1 .left)
 
 shape-requires : tie.Need-shape-requires
@@ -28,7 +23,7 @@ shape-requires c κs = search needs
 
 returns : tie.Need-returns
 returns c =
-    first-turned (shapeRules (c .before .before .args .vars) (c .before .before .args .degree)) (5 when outside p (c .before .before .args .claim ∷ []) ∷ [])
+    shape-turned (c .before .before .args .vars) (c .before .before .args .degree) (5 when outside p (c .before .before .args .claim ∷ []) ∷ [])
     (c .before .shape .ensures) (c .if1 .taken)
 
 is-outside-requires : tie.Need-is-outside-requires

@@ -1,0 +1,77 @@
+-- What the checker knows of what was lent to it, where it was not refused (specs/Entries). Assumes nothing.
+use mathlib.Core.Path.{_≡_, refl, sym, ap, ap₂, _∙_}
+use mathlib.Core.Bool.{Bool, true, false}
+use mathlib.Core.List.{List, [], _∷_, _++_}
+use Prim.Native.Nat.{ℕ, suc, _*_, _^_, _≤_, _<_}
+use lib.ListN.{length}
+use Rattle.refusals.specs.Limits.{maxVars, maxDegree}
+use Rattle.refusals.specs.First.{Rule, _when_, first, either, outside}
+use Rattle.refusals.proofs.First.{either-none}
+use Rattle.refusals.proofs.Order.{Untested, untested, untested-none, neither-left, neither-right, outside-append, outside-none}
+use Rattle.polynomial.specs.Elements.{Elements}
+use Rattle.sumcheck.specs.Lent.{tablesLength, messagesLength, notLong}
+use Rattle.sumcheck.specs.Entries.{checkerRules, roundsRules}
+use Rattle.sumcheck.proofs.Unrefused.{vars-within, degree-within, degree-some, is-long, is-inside}
+
+-- claim, challenges and messages
+pub record RoundsLent (n vars degree claim : ℕ) (challenges messages : List ℕ) : Type 0 where
+  pub most : vars ≤ maxVars
+  pub few : degree ≤ maxDegree
+  pub some : 0 < degree
+  pub rounds : length challenges ≡ vars
+  pub long : length messages ≡ vars * suc degree
+  pub claimed : claim < n
+  pub points : Elements n challenges
+  pub numbers : Elements n messages
+
+pub rounds-lent : (n vars degree claim : ℕ) (challenges messages : List ℕ) {k : ℕ} → k ≡ first (roundsRules n vars degree claim challenges messages) → k ≡ 0
+    → RoundsLent n vars degree claim challenges messages
+rounds-lent n vars degree claim challenges messages e z =
+    let u = untested (roundsRules n vars degree claim challenges messages) refl e z in
+    let split = sym (outside-append n (claim ∷ []) (challenges ++ messages)) ∙ u .1 .1 .1 .0 in
+    let rest : outside n (challenges ++ messages) ≡ false = neither-right (outside n (claim ∷ [])) (outside n (challenges ++ messages)) split in
+    let lists = sym (outside-append n challenges messages) ∙ rest in
+    record {
+      most = vars-within vars (u .0);
+      few = degree-within degree (u .1 .0);
+      some = degree-some degree (u .1 .0);
+      rounds = is-long vars challenges (neither-left (notLong vars challenges) (notLong (messagesLength vars degree) messages) (u .1 .1 .0));
+      long = is-long (messagesLength vars degree) messages (neither-right (notLong vars challenges) (notLong (messagesLength vars degree) messages) (u .1 .1 .0));
+      claimed = is-inside n (claim ∷ []) (neither-left (outside n (claim ∷ [])) (outside n (challenges ++ messages)) split) .0;
+      points = is-inside n challenges (neither-left (outside n challenges) (outside n messages) lists);
+      numbers = is-inside n messages (neither-right (outside n challenges) (outside n messages) lists);
+    }
+
+-- and tables
+pub record TablesLent (n vars degree : ℕ) (tables : List ℕ) : Type 0 where
+  pub long : length tables ≡ degree * 2 ^ vars
+  pub numbers : Elements n tables
+
+module _ (n vars degree : ℕ) (tables : List ℕ) (claim : ℕ) (challenges messages : List ℕ) {k : ℕ}
+    (e : k ≡ first (checkerRules n vars degree tables claim challenges messages)) (z : k ≡ 0) where
+  unmet : Untested (checkerRules n vars degree tables claim challenges messages)
+  unmet = untested (checkerRules n vars degree tables claim challenges messages) refl e z
+
+  lengths : either (notLong vars challenges) (notLong (messagesLength vars degree) messages) ≡ false
+  lengths =
+      neither-right (notLong (tablesLength vars degree) tables) (either (notLong vars challenges) (notLong (messagesLength vars degree) messages)) (unmet .1 .1 .0)
+
+  split : either (outside n tables) (outside n (claim ∷ challenges ++ messages)) ≡ false
+  split = sym (outside-append n tables (claim ∷ challenges ++ messages)) ∙ unmet .1 .1 .1 .0
+
+  pub checker-rounds : 0 ≡ first (roundsRules n vars degree claim challenges messages)
+  checker-rounds =
+      untested-none (roundsRules n vars degree claim challenges messages)
+      (unmet .0, (unmet .1 .0, (lengths, (neither-right (outside n tables) (outside n (claim ∷ challenges ++ messages)) split, tt))))
+
+  pub checker-lent : RoundsLent n vars degree claim challenges messages
+  checker-lent = rounds-lent n vars degree claim challenges messages checker-rounds refl
+
+  pub checker-tables : TablesLent n vars degree tables
+  checker-tables =
+      record {
+        long =
+            is-long (tablesLength vars degree) tables
+            (neither-left (notLong (tablesLength vars degree) tables) (either (notLong vars challenges) (notLong (messagesLength vars degree) messages)) (unmet .1 .1 .0));
+        numbers = is-inside n tables (neither-left (outside n tables) (outside n (claim ∷ challenges ++ messages)) split);
+      }
