@@ -6,11 +6,12 @@ ghost use lib.ListN.{length};
 ghost use Rattle.refusals.specs.Limits.{maxVars, maxDegree};
 ghost use Rattle.refusals.specs.First.{first, given, either, outside};
 ghost use Rattle.sumcheck.specs.Lent.{parts, messagesLength, notLong};
-ghost use Rattle.sumcheck.specs.Protocol.{rounds};
-ghost use Rattle.sumcheck.specs.Entries.{roundsRules, roundsAnswer};
+ghost use Rattle.sumcheck.specs.Protocol.{rounds, reached, final};
+ghost use Rattle.sumcheck.specs.Entries.{checkerRules, checkerAnswer, roundsRules, roundsAnswer};
 ghost use Rattle.narrow_field.specs.Narrow.{p};
-ghost use Rattle.narrow_checker.specs.Said.{saidRounds};
+ghost use Rattle.narrow_checker.specs.Said.{said, saidRounds};
 use super::Rounds;
+use super::Verdict;
 use super::part::messages_length;
 use super::part::wide;
 use super::round::coefficients;
@@ -18,6 +19,7 @@ use super::round::sum_fits;
 use super::round::value_at;
 use narrow_field::field;
 use narrow_tables::judge;
+use narrow_tables::value::f_at;
 
 // Whether challenges or messages are not of the exact length.
 fn is_not_long(vars: u32, degree: u32, challenges: &[u32], messages: &[u32]) -> bool
@@ -52,6 +54,33 @@ fn rounds_refusal(vars: u32, degree: u32, claim: u32, challenges: &[u32], messag
     }
     if is_not_long(vars, degree, challenges, messages) {
         return 3;
+    }
+    if is_outside(claim, challenges, messages) {
+        return 5;
+    }
+    0
+}
+
+// The number of the refusal with tables; 0 if none.
+fn check_refusal(
+    vars: u32,
+    degree: u32,
+    tables: &[u32],
+    claim: u32,
+    challenges: &[u32],
+    messages: &[u32],
+) -> u32
+    ensures { λ r. ⌜ r ≡ first (checkerRules p vars degree (now (tables .entry)) claim (now (challenges .entry)) (now (messages .entry))) ⌝ }
+{
+    let number = judge::tables(vars, degree, tables.len());
+    if number != 0 {
+        return number;
+    }
+    if is_not_long(vars, degree, challenges, messages) {
+        return 3;
+    }
+    if judge::tables_outside(tables, wide(degree), judge::size(vars)) {
+        return 5;
     }
     if is_outside(claim, challenges, messages) {
         return 5;
@@ -94,4 +123,37 @@ pub fn check_rounds(
         return Rounds::Refused(number);
     }
     walk(wide(degree) + 1, claim, challenges, messages)
+}
+
+// The final check: where it fails it is reported as round m.
+fn final_check(vars: u32, last: u32, value: u32) -> Verdict
+    ensures { λ r. ⌜ said r ≡ given (final vars value (reached last)) ⌝ }
+{
+    if last == value {
+        return Verdict::Accepted;
+    }
+    Verdict::Rejected(vars)
+}
+
+// The checker: the first round whose sum fails is rejected; after the last round comes the final check.
+pub fn check(
+    vars: u32,
+    degree: u32,
+    tables: &[u32],
+    claim: u32,
+    challenges: &[u32],
+    messages: &[u32],
+) -> Verdict
+    ensures { λ r. ⌜ said r ≡ checkerAnswer p vars degree (now (tables .entry)) claim (now (challenges .entry)) (now (messages .entry)) ⌝ }
+{
+    let number = check_refusal(vars, degree, tables, claim, challenges, messages);
+    if number != 0 {
+        return Verdict::Refused(number);
+    }
+    let came = walk(wide(degree) + 1, claim, challenges, messages);
+    match came {
+        Rounds::Reached(last) => final_check(vars, last, f_at(vars, degree, tables, challenges)),
+        Rounds::Rejected(round) => Verdict::Rejected(round),
+        Rounds::Refused(number) => Verdict::Refused(number),
+    }
 }

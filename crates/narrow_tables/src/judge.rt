@@ -6,6 +6,7 @@ ghost use lib.ListN.{length};
 ghost use Rattle.refusals.specs.Limits.{maxVars};
 ghost use Rattle.refusals.specs.First.{_when_, first, outside};
 ghost use Rattle.sumcheck.specs.Lent.{badVars, badDegree, firstOutside};
+ghost use Rattle.sumcheck.proofs.Answers.{tablesRules};
 ghost use Rattle.narrow_field.specs.Narrow.{p};
 use narrow_field::P;
 use refusals::MAX_DEGREE;
@@ -41,6 +42,20 @@ pub fn size(vars: u32) -> usize
         i += 1;
     }
     size
+}
+
+// Refusals 1, 2, and 3 for tables of so many numbers; 0 if none.
+pub fn tables(vars: u32, degree: u32, long: usize) -> u32
+    ensures { λ r. ⌜ r ≡ first (tablesRules vars degree long) ⌝ }
+{
+    let refusal = shape(vars, degree);
+    if refusal != 0 {
+        return refusal;
+    }
+    if long != degree as usize * size(vars) {
+        return 3;
+    }
+    0
 }
 
 // The place of the first number that is no element, walking table by table and place by place; the list's length where there is none.

@@ -3,14 +3,12 @@
 use mathlib.Core.Path.{_≡_, refl, sym, ap, ap₂, _∙_}
 use mathlib.Core.Bool.{true, false}
 use mathlib.Core.List.{List, [], _∷_, _++_, map, append-assoc, append-nil}
-use Prim.Native.Nat.{ℕ, zero, suc, _+_, _*_, _%_, _<_}
-use native.Mathlib.Nat.{mod-mod}
+use Prim.Native.Nat.{ℕ, suc, _<_}
 use lib.Dec.{eqb}
 use lib.ListN.{length}
 use borrow.Author.Tests.{eq-eqb}
 use Rattle.arithmetic.specs.Modulo.{add, mul}
 use Rattle.arithmetic.proofs.Modulo.{add-zero-mod}
-use Rattle.polynomial.specs.Elements.{product}
 use Rattle.polynomial.specs.Polynomial.{value}
 use Rattle.refusals.specs.First.{choose}
 use Rattle.sumcheck.specs.Corners.{corners}
@@ -19,12 +17,8 @@ use Rattle.sumcheck.specs.Function.{f, trueSum, trueClaim}
 use Rattle.sumcheck.specs.Rounds.{truePolynomial, polynomialsAfter, truePolynomials}
 use Rattle.sumcheck.specs.Protocol.{Rounds, reached, failed, roundsFrom, accepted, rejected, final, fits, verdict}
 use Rattle.sumcheck.specs.Demands.{Complete}
+use Rattle.sumcheck.proofs.Parts.{product-reduced}
 use Rattle.sumcheck.proofs.Rounds.{polynomial-claim, polynomial-sum}
-
--- a product is its own remainder
-product-reduced : (n : ℕ) (xs : List ℕ) → product n xs % n ≡ product n xs
-product-reduced n [] = mod-mod 1 n
-product-reduced n (x ∷ xs) = mod-mod (x * product n xs) n
 
 -- with no variable left the true claim is f at the challenges
 pub claim-last : (n : ℕ) (ts : List (List ℕ)) (r : List ℕ) → trueClaim n ts r 0 ≡ f n ts r

@@ -1,9 +1,9 @@
 -- The corners of m variables: m members each, all 0 or 1, and their indices are 0, 1, .., 2^m - 1 in order. Assumes nothing.
 use mathlib.Core.Path.{_≡_, refl, sym, ap, ap₂, _∙_}
 use mathlib.Core.List.{List, [], _∷_, _++_, map}
-use Prim.Native.Nat.{ℕ, zero, suc, _+_, _*_, _^_, _≤_, _<_}
+use Prim.Native.Nat.{ℕ, zero, suc, _+_, _-_, _*_, _^_, _≤_, _<_}
 use native.Mathlib.Omega.{arith}
-use native.Mathlib.Nat.{add-zero, zero-add, add-suc, suc-add, two-pow-succ}
+use native.Mathlib.Nat.{add-zero, zero-add, add-suc, suc-add, sub-self, two-pow-succ}
 use lib.ListN.{length, length-append, length-map}
 use Rattle.polynomial.specs.Elements.{Every, Distinct}
 use Rattle.polynomial.proofs.Lists.{every-map, every-of-map, every-append, map-same, map-twice, map-append}
@@ -97,3 +97,21 @@ unfolding countFrom
 count-distinct i zero = tt
 count-distinct i (suc c) =
     (count-every (λ (y : ℕ). i ≡ y → ⊥) (suc i) c (λ (y : ℕ) (l : suc i ≤ y) (u : y < suc i + c) (e : i ≡ y). omega arith), count-distinct (suc i) c)
+
+-- the numbers from i up to c, the first of them apart
+pub count-cons : (i c : ℕ) → (i ≡ 0 → ⊥) → i ≤ c → countFrom (i - 1) (c - (i - 1)) ≡ (i - 1) ∷ countFrom i (c - i)
+unfolding countFrom
+count-cons zero c h l = absurd (h refl)
+count-cons (suc i) c h l =
+    ap₂ countFrom (less i) (two-steps i c l)
+    ∙ ap (λ (j : ℕ). j ∷ countFrom (suc i) (c - suc i)) (sym (less i))
+  where
+    less : (i : ℕ) → suc i - 1 ≡ i
+    less i = omega arith
+
+    two-steps : (i c : ℕ) → suc i ≤ c → c - (suc i - 1) ≡ suc (c - suc i)
+    two-steps i c l = omega arith
+
+pub count-none : (c : ℕ) → countFrom c (c - c) ≡ []
+unfolding countFrom
+count-none c = ap (countFrom c) (sub-self c)

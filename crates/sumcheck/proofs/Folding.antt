@@ -79,10 +79,10 @@ extension-fold (suc m) h r t rs =
     (every-map (Corner (length rs)) (λ (c : List ℕ). add (suc m) (share (suc m) t (r ∷ rs) (0 ∷ c)) (share (suc m) t (r ∷ rs) (1 ∷ c)) ≡ share (suc m) (fold (suc m) r (2 ^ length rs) t) rs c)
     (meet m r t rs) (corners (length rs)) (corner-all (length rs)))))))
 
-between-low : (m a b : ℕ) → between (suc m) 0 a b % suc m ≡ a % suc m
+pub between-low : (m a b : ℕ) → between (suc m) 0 a b % suc m ≡ a % suc m
 between-low m a b = mod-mod (a + mul (suc m) 0 (sub (suc m) b a)) (suc m) ∙ same (suc m) (at a ⊕ at 0 ⊗ (at b ⊕ ⊖ at a)) (at a) 0 0 (omega arith)
 
-between-high : (m a b : ℕ) → between (suc m) 1 a b % suc m ≡ b % suc m
+pub between-high : (m a b : ℕ) → between (suc m) 1 a b % suc m ≡ b % suc m
 between-high m a b = mod-mod (a + mul (suc m) 1 (sub (suc m) b a)) (suc m) ∙ same (suc m) (at a ⊕ at 1 ⊗ (at b ⊕ ⊖ at a)) (at b) 0 a (omega arith)
 
 -- at a corner an extension is the table's value there

@@ -3,6 +3,9 @@
 --   Extension     an extension has degree at most 1 in each variable
 --   Folding       binding the first variable is folding; an extension agrees with its table at the corners
 --   Rounds        a true polynomial has the values that the document says, and is the only one; its values at 0 and 1
+--   Halves        an extension by halves; the true sum by places
+--   Parts         a lent list as parts of one size
+--   Answers       the entries' answers, one test at a time
 --   Search        the walk for refusal 5: table by table, place by place
 --   Walk          the rounds taken one by one from a lent message list
 --   Unrefused     what a call knows that was not refused
@@ -17,6 +20,9 @@ pub mod Rounds
 pub mod Completeness
 pub mod Soundness
 pub mod Search
+pub mod Halves
+pub mod Parts
+pub mod Answers
 pub mod Walk
 pub mod Unrefused
 pub mod Part

@@ -13,11 +13,9 @@ use Rattle.refusals.proofs.First.{either-none}
 use Rattle.refusals.proofs.Order.{first-turned, first-passed, neither-left, neither-right}
 use Rattle.polynomial.specs.Elements.{Elements}
 use Rattle.sumcheck.specs.Lent.{badVars, badDegree, notLong}
+use Rattle.sumcheck.proofs.Answers.{shapeRules}
 
 -- the shape is judged first
-abbrev pub shapeRules : ℕ → ℕ → List Rule
-shapeRules vars degree = 1 when badVars vars ∷ 2 when badDegree degree ∷ []
-
 pub shape-turned : (vars degree : ℕ) (rest : List Rule) {k : ℕ} → k ≡ first (shapeRules vars degree) → (k ≡ 0 → ⊥) → k ≡ first (shapeRules vars degree ++ rest)
 shape-turned vars degree rest e z = first-turned (shapeRules vars degree) rest e z
 

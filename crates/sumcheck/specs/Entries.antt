@@ -21,6 +21,19 @@ sumAnswer n vars degree tables =
     ∷ [])
     (trueSum n (tablesOf vars degree tables) vars)
 
+-- refusals 1, 2 and 3 for tables and a point, by number; 0 if none
+abbrev pub lengthsRefusal : ℕ → ℕ → List ℕ → List ℕ → ℕ
+lengthsRefusal vars degree tables point =
+    first
+    (1 when badVars vars
+    ∷ 2 when badDegree degree
+    ∷ 3 when either (notLong (tablesLength vars degree) tables) (notLong vars point)
+    ∷ [])
+
+-- for the entries that have judged the elements: the value of f where the lengths are right, 0 where they are not
+abbrev pub valueOrZero : ℕ → ℕ → ℕ → List ℕ → List ℕ → ℕ
+valueOrZero n vars degree tables point = choose (eqb (lengthsRefusal vars degree tables point) 0) (f n (tablesOf vars degree tables) point) 0
+
 -- the value of f at a point
 abbrev pub valueAnswer : ℕ → ℕ → ℕ → List ℕ → List ℕ → Answer ℕ
 valueAnswer n vars degree tables point =

@@ -3,8 +3,8 @@ use mathlib.Core.Path.{_≡_, sym, ap, _∙_}
 use mathlib.Core.Bool.{true}
 use mathlib.Core.List.{[], _∷_, _++_}
 use Rattle.refusals.specs.First.{either, outside}
-use Rattle.refusals.proofs.First.{choose-false}
-use Rattle.refusals.proofs.Order.{outside-append, outside-left, outside-right}
+use Rattle.refusals.proofs.First.{choose-false, outside-append}
+use Rattle.refusals.proofs.Order.{outside-left, outside-right}
 use Rattle.narrow_field.specs.Narrow.{p}
 use borrow.Author.Needs.{needs}
 use Rattle.narrow_checker.proofs.whole.is_outside.Statement.{statement}
