@@ -6,7 +6,7 @@ use mathlib.Core.List.{List, [], _∷_, _++_}
 use Prim.Native.Nat.{ℕ}
 use native.Mathlib.Omega.{arith}
 use lib.Dec.{eqb}
-use borrow.Author.Tests.{eq-eqb, ne-eqb, eqb-false}
+use borrow.Author.Tests.{eq-eqb, ne-eqb, eqb-true, eqb-false}
 use Rattle.refusals.specs.First.{Rule, _when_, Answer, refused, given, choose, either, outside, first, decide}
 use Rattle.refusals.proofs.First.{choose-true, choose-false, unnumbered, either-left, either-right, either-none, Numbers, first-rest, first-first, outside-append}
 
@@ -98,3 +98,25 @@ outside-none n xs ys e f = outside-append n xs ys ∙ either-none e f
 -- a refusal is no answer
 pub refused-given : {A : Type 0} (number : ℕ) (a : A) → refused number ≡ given a → ⊥
 refused-given number a e = let z : _≡_ {A = ℕ} 0 1 = cc in omega arith
+
+-- what an answer says: a value was not refused, and a refusal is the first whose test holds
+pub decided-given : {A : Type 0} (rules : List Rule) → named rules ≡ true → (a x : A) → decide rules a ≡ given x → (first rules ≡ 0) × (a ≡ x)
+decided-given {A} rules h a x e = go (eqb (first rules) 0) refl (sym (decide-number rules (named-numbers rules h) a) ∙ e)
+  where
+    go : (b : Bool) → eqb (first rules) 0 ≡ b → choose (eqb (first rules) 0) (given a) (refused (first rules)) ≡ given x → (first rules ≡ 0) × (a ≡ x)
+    go true t f =
+        let same : _≡_ {A = Answer A} (given a) (given x) = sym (choose-true (given a) (refused (first rules)) t) ∙ f in
+        (eqb-true (first rules) 0 t, cc)
+    go false t f = absurd (refused-given (first rules) x (sym (choose-false (given a) (refused (first rules)) t) ∙ f))
+
+pub decided-refused : {A : Type 0} (rules : List Rule) → named rules ≡ true → (a : A) (number : ℕ) → decide rules a ≡ refused number
+    → (first rules ≡ number) × (number ≡ 0 → ⊥)
+decided-refused {A} rules h a number e = go (eqb (first rules) 0) refl (sym (decide-number rules (named-numbers rules h) a) ∙ e)
+  where
+    go : (b : Bool) → eqb (first rules) 0 ≡ b → choose (eqb (first rules) 0) (given a) (refused (first rules)) ≡ refused number
+        → (first rules ≡ number) × (number ≡ 0 → ⊥)
+    go true t f = absurd (refused-given number a (sym (sym (choose-true (given a) (refused (first rules)) t) ∙ f)))
+    go false t f =
+        let same : _≡_ {A = Answer A} (refused (first rules)) (refused number) = sym (choose-false (given a) (refused (first rules)) t) ∙ f in
+        let alike : first rules ≡ number = cc in
+        (alike, λ (z : number ≡ 0). eqb-false (first rules) 0 t (alike ∙ z))

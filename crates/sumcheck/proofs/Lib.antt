@@ -12,6 +12,10 @@
 --   Entries       what the checker knows of what was lent to it
 --   Part          where the round part lies, and that it is the message that is judged
 --   Steps         the paths of opening, a step and closing
+--   Course        every sum agrees, or there is a first that fails
+--   Messages      a lent list as messages, and messages as a list
+--   Checker       the demands on the checker's own answer (specs/Checker)
+--   TrueClaim     a true claim is accepted by the checker's own answer
 --   Completeness  Soundness   the demands of specs/Demands
 pub mod Corners
 pub mod Extension
@@ -28,3 +32,7 @@ pub mod Unrefused
 pub mod Part
 pub mod Entries
 pub mod Steps
+pub mod Course
+pub mod Messages
+pub mod Checker
+pub mod TrueClaim

@@ -18,6 +18,7 @@ use Rattle.refusals.specs.First.{choose}
 use Rattle.refusals.proofs.First.{choose-true, choose-false}
 use Rattle.sumcheck.specs.Protocol.{fits, Rounds, reached, failed, roundsFrom, rounds}
 use Rattle.sumcheck.specs.Lent.{parts}
+use Rattle.sumcheck.proofs.Parts.{part-of}
 
 -- a message in an array has its values and its sum
 pub array-value : (n : ℕ) (message cs : List ℕ) (x : ℕ) → cs ≡ padded (suc maxDegree) message → length message ≤ suc maxDegree → value n cs x ≡ value n message x
@@ -44,10 +45,7 @@ message-short width xs j = omega (arith, length-take width (drop (j * width) xs)
 
 -- the part that is lent for it
 pub message-part : (width : ℕ) (xs : List ℕ) (j : ℕ) → take (j * width + width - j * width) (drop (j * width) xs) ≡ messageAt width xs j
-message-part width xs j = ap (λ (l : ℕ). take l (drop (j * width) xs)) long
-  where
-    long : j * width + width - j * width ≡ width
-    long = omega arith
+message-part width xs j = part-of (j * width) width xs
 
 -- the round that comes next is judged by its message
 next : (n claim : ℕ) (rs : List ℕ) (width : ℕ) (xs : List ℕ) (j c : ℕ) → j < length rs → Walked n claim rs width xs j c

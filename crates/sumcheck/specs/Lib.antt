@@ -8,6 +8,7 @@
 --   Lent        what a caller lends, and the tests that turn it down
 --   Entries     what each entry answers and leaves, refusals in order
 --   Steps       the checker in steps: the state, opening, a step, closing
+--   Checker     what is demanded of the checker's own answer
 --   Part        the round part of a message list
 --   Folding     halving a table by a challenge: not the document's words, and cited by no promise of an entry
 pub mod Corners
@@ -20,4 +21,5 @@ pub mod Lent
 pub mod Entries
 pub mod Steps
 pub mod Part
+pub mod Checker
 pub mod Folding
