@@ -16,6 +16,9 @@
 --   Messages      a lent list as messages, and messages as a list
 --   Checker       the demands on the checker's own answer (specs/Checker)
 --   TrueClaim     a true claim is accepted by the checker's own answer
+--   Followed      the protocol's own course over inputs of steps
+--   Sequences     any sequence of steps answers as the protocol does (specs/Sequences)
+--   Agreement     steps and closing agree with the checker
 --   Completeness  Soundness   the demands of specs/Demands
 pub mod Corners
 pub mod Extension
@@ -36,3 +39,6 @@ pub mod Course
 pub mod Messages
 pub mod Checker
 pub mod TrueClaim
+pub mod Followed
+pub mod Sequences
+pub mod Agreement

@@ -9,6 +9,7 @@
 --   Entries     what each entry answers and leaves, refusals in order
 --   Steps       the checker in steps: the state, opening, a step, closing
 --   Checker     what is demanded of the checker's own answer
+--   Sequences   sequences of steps answer as the protocol does, and agree with the checker
 --   Part        the round part of a message list
 --   Folding     halving a table by a challenge: not the document's words, and cited by no promise of an entry
 pub mod Corners
@@ -22,4 +23,5 @@ pub mod Entries
 pub mod Steps
 pub mod Part
 pub mod Checker
+pub mod Sequences
 pub mod Folding
