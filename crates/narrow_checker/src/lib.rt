@@ -1,9 +1,11 @@
-// The checker over the narrow field (document 01): `whole` has it in one call, with tables and without, `steps` in steps, `part` the round part;
-// `round` has a round's coefficients as one array value.
+// The checker over the narrow field (document 01): `whole` has it in one call, `without_tables` without them, `steps` in steps, with `doubts` for their
+// refusals, `part` the round part; `round` has a round's coefficients as one array value.
+mod doubts;
 pub mod part;
 pub mod round;
 pub mod steps;
 pub mod whole;
+pub mod without_tables;
 
 // What the checker and closing answer.
 pub enum Verdict {

@@ -4,10 +4,10 @@ ghost use denote.Ref.{ptr};
 ghost use Rattle.sumcheck.specs.Lent.{messagesLength};
 ghost use Rattle.sumcheck.specs.Part.{partRefusal, partStart, partOf};
 ghost use Rattle.narrow_checker.specs.Place.{placeAt};
-use narrow_tables::judge::shape;
+use narrow_tables::judge;
 
 // x as a usize.
-pub fn wide(x: u32) -> usize
+pub(crate) fn wide(x: u32) -> usize
     ensures { λ r. ⌜ r ≡ x ⌝ }
 {
     x as usize
@@ -24,9 +24,9 @@ pub fn messages_length(vars: u32, degree: u32) -> usize
 pub fn round_part_refusal(vars: u32, degree: u32, messages: &[u32], round: u32) -> u32
     ensures { λ r. ⌜ r ≡ partRefusal vars degree (now (messages .entry)) round ⌝ }
 {
-    let number = shape(vars, degree);
-    if number != 0 {
-        return number;
+    let shape = judge::shape(vars, degree);
+    if shape != 0 {
+        return shape;
     }
     if messages.len() != messages_length(vars, degree) {
         return 3;

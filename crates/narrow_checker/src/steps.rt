@@ -1,16 +1,16 @@
 // The checker in steps (document 01, "What is offered"): the state goes in by value and comes back by value at each step. A state of any numbers
 // whatever gets its answer; a refused call hands the state back unchanged.
 ghost use mathlib.Core.Path.{_≡_};
-ghost use Rattle.refusals.specs.First.{first};
-ghost use Rattle.sumcheck.specs.Steps.{forged, over, openingRules, opening, stepRules, step, closingRules, closing};
+ghost use Rattle.sumcheck.specs.Steps.{opening, step, closing};
 ghost use Rattle.narrow_field.specs.Narrow.{p};
 ghost use Rattle.narrow_checker.specs.Said.{stateOf, saidOpened, saidStepped, saidClosed};
 use super::Verdict;
+use super::doubts::close_refusal;
+use super::doubts::doubt;
+use super::doubts::step_refusal;
 use super::round::coefficients;
 use super::round::sum_fits;
 use super::round::value_at;
-use narrow_field::field::is_outside;
-use narrow_tables::judge;
 
 // What the state holds: the shape, rounds taken, the running claim and a rejected mark.
 pub struct State {
@@ -50,90 +50,7 @@ pub struct Closed {
     pub outcome: Verdict,
 }
 
-// Refusals 1, 2 and 5 of vars, degree and a claim: what opening judges, and what a step or closing doubts first; 0 if none.
-fn doubt(vars: u32, degree: u32, claim: u32) -> u32
-    ensures { λ r. ⌜ r ≡ first (openingRules p vars degree claim) ⌝ }
-{
-    let number = judge::shape(vars, degree);
-    if number != 0 {
-        return number;
-    }
-    if is_outside(claim) {
-        return 5;
-    }
-    0
-}
-
 impl State {
-    // Whether any use is refused by 7: more rounds taken than vars, or rejected with all rounds taken.
-    fn is_forged(self) -> bool
-        ensures { λ r. ⌜ r ≡ forged (stateOf self) ⌝ }
-    {
-        if self.vars < self.taken {
-            return true;
-        }
-        if self.rejected {
-            return self.taken == self.vars;
-        }
-        false
-    }
-
-    // Whether no step is left: rejected or complete.
-    fn is_over(self) -> bool
-        ensures { λ r. ⌜ r ≡ over (stateOf self) ⌝ }
-    {
-        if self.rejected {
-            return true;
-        }
-        self.taken == self.vars
-    }
-
-    // The number of a step's refusal; 0 if none.
-    fn step_refusal(self, message: &[u32], challenge: u32) -> u32
-        ensures { λ r. ⌜ r ≡ first (stepRules p (stateOf self) (now (message .entry)) challenge) ⌝ }
-    {
-        let number = doubt(self.vars, self.degree, self.claim);
-        if number != 0 {
-            return number;
-        }
-        if self.is_forged() {
-            return 7;
-        }
-        if self.is_over() {
-            return 7;
-        }
-        if message.len() != self.degree as usize + 1 {
-            return 3;
-        }
-        if is_outside(challenge) {
-            return 5;
-        }
-        if judge::is_outside(message) {
-            return 5;
-        }
-        0
-    }
-
-    // The number of a closing's refusal; 0 if none.
-    fn close_refusal(self, value: u32) -> u32
-        ensures { λ r. ⌜ r ≡ first (closingRules p (stateOf self) value) ⌝ }
-    {
-        let number = doubt(self.vars, self.degree, self.claim);
-        if number != 0 {
-            return number;
-        }
-        if self.is_forged() {
-            return 7;
-        }
-        if !self.is_over() {
-            return 7;
-        }
-        if is_outside(value) {
-            return 5;
-        }
-        0
-    }
-
     // The first state of a checker. Where opening is refused, every use of that state is refused by the same number.
     pub fn open(vars: u32, degree: u32, claim: u32) -> Opened
         ensures { λ r. ⌜ saidOpened r ≡ opening p vars degree claim ⌝ }
@@ -162,10 +79,11 @@ impl State {
     pub fn step(self, message: &[u32], challenge: u32) -> Stepped
         ensures { λ r. ⌜ saidStepped r ≡ step p (stateOf self) (now (message .entry)) challenge ⌝ }
     {
-        let number = self.step_refusal(message, challenge);
+        let number = step_refusal(self, message, challenge);
         if number != 0 {
+            let unchanged = self;
             return Stepped {
-                state: self,
+                state: unchanged,
                 outcome: Step::Refused(number),
             };
         }
@@ -200,7 +118,7 @@ impl State {
     pub fn close(self, value: u32) -> Closed
         ensures { λ r. ⌜ saidClosed r ≡ closing p (stateOf self) value ⌝ }
     {
-        let number = self.close_refusal(value);
+        let number = close_refusal(self, value);
         if number != 0 {
             return Closed {
                 state: self,

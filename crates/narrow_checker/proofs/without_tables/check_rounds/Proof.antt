@@ -1,4 +1,4 @@
--- `narrow_checker::whole::check_rounds` meets its contract: the number decides; where it is 0 the rounds are walked. Assumes nothing.
+-- `narrow_checker::without_tables::check_rounds` meets its contract: the number decides; where it is 0 the rounds are walked. Assumes nothing.
 use mathlib.Core.Path.{_≡_, refl, sym, ap, ap₂, _∙_}
 use Prim.Native.Nat.{ℕ, suc, _+_, _*_}
 use native.Mathlib.Numerals.{add-one}
@@ -12,8 +12,8 @@ use Rattle.sumcheck.proofs.Entries.{RoundsLent, rounds-lent}
 use Rattle.narrow_field.specs.Narrow.{p}
 use borrow.Author.Needs.{needs}
 use native.Mathlib.Omega.{arith}
-use Rattle.narrow_checker.proofs.whole.check_rounds.Statement.{statement}
-use Rattle.narrow_checker.proofs.whole.check_rounds.Tie as tie
+use Rattle.narrow_checker.proofs.without_tables.check_rounds.Statement.{statement}
+use Rattle.narrow_checker.proofs.without_tables.check_rounds.Tie as tie
 
 -- what is known of what was lent
 known : (c : tie.Else1) →

@@ -1,4 +1,4 @@
--- `narrow_checker::whole::walk` meets its contract: so many rounds are taken, and the running claim is theirs. Assumes nothing.
+-- `narrow_checker::without_tables::walk` meets its contract: so many rounds are taken, and the running claim is theirs. Assumes nothing.
 use mathlib.Core.Path.{_≡_, sym, ap, _∙_}
 use Prim.Native.Nat.{suc, _+_, _-_, _*_, _≤_}
 use native.Mathlib.Nat.{mul-le-mul-right}
@@ -13,8 +13,8 @@ use Rattle.sumcheck.proofs.Walk.{Walked, messageAt, message-short, message-part
 use Rattle.narrow_field.specs.Narrow.{p}
 use borrow.Author.Needs.{needs}
 use native.Mathlib.Omega.{arith}
-use Rattle.narrow_checker.proofs.whole.walk.Statement.{statement}
-use Rattle.narrow_checker.proofs.whole.walk.Tie as tie
+use Rattle.narrow_checker.proofs.without_tables.walk.Statement.{statement}
+use Rattle.narrow_checker.proofs.without_tables.walk.Tie as tie
 
 abbrev Inv-loop : tie.InvT-loop
 Inv-loop width claim challenges messages running₀ taken₀ running taken = (taken ≤ length challenges) × Walked p claim challenges width messages taken running

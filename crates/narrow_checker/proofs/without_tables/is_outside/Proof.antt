@@ -1,4 +1,4 @@
--- `narrow_checker::whole::is_outside` meets its contract: one list after the other. Assumes nothing.
+-- `narrow_checker::without_tables::is_outside` meets its contract: one list after the other. Assumes nothing.
 use mathlib.Core.Path.{_≡_, sym, ap, _∙_}
 use mathlib.Core.Bool.{true}
 use mathlib.Core.List.{[], _∷_, _++_}
@@ -7,8 +7,8 @@ use Rattle.refusals.proofs.First.{choose-false, outside-append}
 use Rattle.refusals.proofs.Order.{outside-left, outside-right}
 use Rattle.narrow_field.specs.Narrow.{p}
 use borrow.Author.Needs.{needs}
-use Rattle.narrow_checker.proofs.whole.is_outside.Statement.{statement}
-use Rattle.narrow_checker.proofs.whole.is_outside.Tie as tie
+use Rattle.narrow_checker.proofs.without_tables.is_outside.Statement.{statement}
+use Rattle.narrow_checker.proofs.without_tables.is_outside.Tie as tie
 
 is-outside-requires : tie.Need-is-outside-requires
 is-outside-requires c κs = search needs

@@ -1,4 +1,4 @@
--- `narrow_checker::whole::is_not_long` meets its contract: one test after the other. Assumes nothing.
+-- `narrow_checker::without_tables::is_not_long` meets its contract: one test after the other. Assumes nothing.
 use mathlib.Core.Path.{_≡_, sym, ap, _∙_}
 use mathlib.Core.Bool.{true, not}
 use Prim.Native.Nat.{ℕ}
@@ -8,8 +8,8 @@ use Rattle.refusals.proofs.First.{either-left, choose-false}
 use Rattle.sumcheck.specs.Lent.{messagesLength, notLong}
 use Rattle.sumcheck.proofs.Unrefused.{long-is, not-long}
 use borrow.Author.Needs.{needs}
-use Rattle.narrow_checker.proofs.whole.is_not_long.Statement.{statement}
-use Rattle.narrow_checker.proofs.whole.is_not_long.Tie as tie
+use Rattle.narrow_checker.proofs.without_tables.is_not_long.Statement.{statement}
+use Rattle.narrow_checker.proofs.without_tables.is_not_long.Tie as tie
 
 wide-requires : tie.Need-wide-requires
 wide-requires c κs = search needs

@@ -1,4 +1,4 @@
--- `narrow_checker::whole::rounds_refusal` meets its contract: one refusal a test, in order. Assumes nothing.
+-- `narrow_checker::without_tables::rounds_refusal` meets its contract: one refusal a test, in order. Assumes nothing.
 use mathlib.Core.Path.{_≡_, sym, _∙_}
 use mathlib.Core.List.{List, [], _∷_, _++_}
 use Prim.Native.Nat.{ℕ}
@@ -9,8 +9,8 @@ use Rattle.sumcheck.specs.Entries.{roundsRules}
 use Rattle.sumcheck.proofs.Unrefused.{shape-turned, shape-passed}
 use Rattle.narrow_field.specs.Narrow.{p}
 use borrow.Author.Needs.{needs}
-use Rattle.narrow_checker.proofs.whole.rounds_refusal.Statement.{statement}
-use Rattle.narrow_checker.proofs.whole.rounds_refusal.Tie as tie
+use Rattle.narrow_checker.proofs.without_tables.rounds_refusal.Statement.{statement}
+use Rattle.narrow_checker.proofs.without_tables.rounds_refusal.Tie as tie
 
 -- what is refused after the shape, and after the lengths
 abbrev numbers : ℕ → List ℕ → List ℕ → List Rule
