@@ -8,14 +8,14 @@ use Rattle.narrow_checker.specs.declared.Verdict.{Verdict}
 use Rattle.narrow_checker.specs.declared.Verdict.the-variants.{Accepted, Rejected, Refused}
 use Rattle.narrow_checker.specs.declared.Rounds.{Rounds}
 use Rattle.narrow_checker.specs.declared.Rounds.the-variants as R
-use Rattle.narrow_checker.specs.declared.steps.State.{State}
-use Rattle.narrow_checker.specs.declared.steps.Opening.{Opening}
-use Rattle.narrow_checker.specs.declared.steps.Opening.the-variants as O
-use Rattle.narrow_checker.specs.declared.steps.Step.{Step}
-use Rattle.narrow_checker.specs.declared.steps.Step.the-variants as S
-use Rattle.narrow_checker.specs.declared.steps.Opened.{Opened}
-use Rattle.narrow_checker.specs.declared.steps.Stepped.{Stepped}
-use Rattle.narrow_checker.specs.declared.steps.Closed.{Closed}
+use Rattle.narrow_checker.specs.declared.state.State.{State}
+use Rattle.narrow_checker.specs.declared.state.Opening.{Opening}
+use Rattle.narrow_checker.specs.declared.state.Opening.the-variants as O
+use Rattle.narrow_checker.specs.declared.step.Step.{Step}
+use Rattle.narrow_checker.specs.declared.step.Step.the-variants as S
+use Rattle.narrow_checker.specs.declared.state.Opened.{Opened}
+use Rattle.narrow_checker.specs.declared.step.Stepped.{Stepped}
+use Rattle.narrow_checker.specs.declared.close.Closed.{Closed}
 
 -- the checker's verdict, and closing's
 abbrev pub said : Verdict → Answer Protocol.Verdict

@@ -1,9 +1,10 @@
-// The checker over the narrow field (document 01): `whole` has it in one call, `without_tables` without them, `steps` in steps, with `doubts` for their
-// refusals, `part` the round part; `round` has a round's coefficients as one array value.
-mod doubts;
+// The checker over the narrow field (document 01): `whole` has it in one call, `without_tables` without them, `state`, `step` and `close` in steps,
+// `part` the round part; `round` has a round's coefficients as one array value.
+pub mod close;
 pub mod part;
 pub mod round;
-pub mod steps;
+pub mod state;
+pub mod step;
 pub mod whole;
 pub mod without_tables;
 

@@ -1,12 +1,12 @@
--- `narrow_checker::doubts::is_open` meets its contract: one test after the other. Assumes nothing.
+-- `narrow_checker::close::is_open` meets its contract: one test after the other. Assumes nothing.
 use mathlib.Core.Path.{sym, ap, _∙_}
 use mathlib.Core.Bool.{true, not}
 use Rattle.refusals.proofs.First.{either-left, choose-false}
 use Rattle.sumcheck.specs.Steps.{over}
 use Rattle.narrow_checker.specs.Said.{stateOf}
 use borrow.Author.Needs.{needs}
-use Rattle.narrow_checker.proofs.doubts.is_open.Statement.{statement}
-use Rattle.narrow_checker.proofs.doubts.is_open.Tie as tie
+use Rattle.narrow_checker.proofs.close.is_open.Statement.{statement}
+use Rattle.narrow_checker.proofs.close.is_open.Tie as tie
 
 is-forged-requires : tie.Need-is-forged-requires
 is-forged-requires c κs = search needs

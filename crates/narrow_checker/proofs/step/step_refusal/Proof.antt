@@ -1,4 +1,4 @@
--- `narrow_checker::doubts::step_refusal` meets its contract: one refusal a test, in order. Assumes nothing.
+-- `narrow_checker::step::step_refusal` meets its contract: one refusal a test, in order. Assumes nothing.
 use mathlib.Core.Path.{_≡_, sym, ap, _∙_}
 use mathlib.Core.List.{[], _∷_}
 use Prim.Native.Nat.{ℕ, suc, _+_}
@@ -13,8 +13,8 @@ use Rattle.sumcheck.proofs.Steps.{stepGiven, stepRest, doubted, undoubted}
 use Rattle.narrow_field.specs.Narrow.{p}
 use Rattle.narrow_checker.specs.Said.{stateOf}
 use borrow.Author.Needs.{needs}
-use Rattle.narrow_checker.proofs.doubts.step_refusal.Statement.{statement}
-use Rattle.narrow_checker.proofs.doubts.step_refusal.Tie as tie
+use Rattle.narrow_checker.proofs.step.step_refusal.Statement.{statement}
+use Rattle.narrow_checker.proofs.step.step_refusal.Tie as tie
 
 -- the shape and the running claim are right
 undoubted-here : (c : tie.Else1) →

@@ -1,4 +1,4 @@
--- `narrow_checker::doubts::is_forged` meets its contract: one test after the other. Assumes nothing.
+-- `narrow_checker::state::is_forged` meets its contract: one test after the other. Assumes nothing.
 use mathlib.Core.Path.{_≡_, sym, ap, _∙_}
 use mathlib.Core.Bool.{Bool, true, false}
 use lib.Dec.{eqb}
@@ -7,8 +7,8 @@ use Rattle.refusals.specs.First.{choose}
 use Rattle.refusals.proofs.First.{choose-true, choose-false, either-left}
 use Rattle.sumcheck.specs.Steps.{complete}
 use Rattle.narrow_checker.specs.Said.{stateOf}
-use Rattle.narrow_checker.proofs.doubts.is_forged.Statement.{statement}
-use Rattle.narrow_checker.proofs.doubts.is_forged.Tie as tie
+use Rattle.narrow_checker.proofs.state.is_forged.Statement.{statement}
+use Rattle.narrow_checker.proofs.state.is_forged.Tie as tie
 
 returns : tie.Need-returns
 returns c =

@@ -1,9 +1,9 @@
--- `narrow_checker::steps::State::open` meets its contract: the state is the same on both ways; the number decides. Assumes nothing.
+-- `narrow_checker::state::State::open` meets its contract: the state is the same on both ways; the number decides. Assumes nothing.
 use Rattle.sumcheck.proofs.Steps.{open-refused, open-given}
 use Rattle.narrow_field.specs.Narrow.{p}
 use borrow.Author.Needs.{needs}
-use Rattle.narrow_checker.proofs.steps.State.open.Statement.{statement}
-use Rattle.narrow_checker.proofs.steps.State.open.Tie as tie
+use Rattle.narrow_checker.proofs.state.State.open.Statement.{statement}
+use Rattle.narrow_checker.proofs.state.State.open.Tie as tie
 
 doubt-requires : tie.Need-doubt-requires
 doubt-requires c κs = search needs

@@ -1,4 +1,4 @@
--- `narrow_checker::doubts::close_refusal` meets its contract: one refusal a test, in order. Assumes nothing.
+-- `narrow_checker::close::close_refusal` meets its contract: one refusal a test, in order. Assumes nothing.
 use mathlib.Core.Path.{_≡_, sym, _∙_}
 use mathlib.Core.List.{[], _∷_}
 use Rattle.refusals.specs.First.{_when_, first, outside}
@@ -8,8 +8,8 @@ use Rattle.sumcheck.proofs.Steps.{closingRest, doubted, undoubted}
 use Rattle.narrow_field.specs.Narrow.{p}
 use Rattle.narrow_checker.specs.Said.{stateOf}
 use borrow.Author.Needs.{needs}
-use Rattle.narrow_checker.proofs.doubts.close_refusal.Statement.{statement}
-use Rattle.narrow_checker.proofs.doubts.close_refusal.Tie as tie
+use Rattle.narrow_checker.proofs.close.close_refusal.Statement.{statement}
+use Rattle.narrow_checker.proofs.close.close_refusal.Tie as tie
 
 -- the shape and the running claim are right
 undoubted-here : (c : tie.Else1) →

@@ -1,11 +1,11 @@
--- `narrow_checker::steps::State::step` meets its contract: one law of the step for each path. Assumes nothing.
+-- `narrow_checker::state::State::step` meets its contract: one law of the step for each path. Assumes nothing.
 use native.Mathlib.Omega.{arith}
 use Rattle.sumcheck.proofs.Steps.{unrefused, step-refused, step-fits, step-rejects}
 use Rattle.narrow_field.specs.Narrow.{p}
 use Rattle.narrow_checker.specs.Said.{stateOf}
 use borrow.Author.Needs.{needs}
-use Rattle.narrow_checker.proofs.steps.State.step.Statement.{statement}
-use Rattle.narrow_checker.proofs.steps.State.step.Tie as tie
+use Rattle.narrow_checker.proofs.state.State.step.Statement.{statement}
+use Rattle.narrow_checker.proofs.state.State.step.Tie as tie
 
 step-refusal-requires : tie.Need-step-refusal-requires
 step-refusal-requires c κs = search needs

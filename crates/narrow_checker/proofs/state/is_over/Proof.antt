@@ -1,12 +1,12 @@
--- `narrow_checker::doubts::is_over` meets its contract: one test after the other. Assumes nothing.
+-- `narrow_checker::state::is_over` meets its contract: one test after the other. Assumes nothing.
 use mathlib.Core.Path.{sym}
 use mathlib.Core.Bool.{true}
 use Rattle.refusals.proofs.First.{choose-false}
 use Rattle.sumcheck.specs.Steps.{complete}
 use Rattle.narrow_checker.specs.Said.{stateOf}
 use borrow.Author.Needs.{needs}
-use Rattle.narrow_checker.proofs.doubts.is_over.Statement.{statement}
-use Rattle.narrow_checker.proofs.doubts.is_over.Tie as tie
+use Rattle.narrow_checker.proofs.state.is_over.Statement.{statement}
+use Rattle.narrow_checker.proofs.state.is_over.Tie as tie
 
 returns : tie.Need-returns
 returns c = search needs

@@ -1,4 +1,4 @@
--- `narrow_checker::doubts::doubt` meets its contract: refusals 1 and 2 by the shape, 5 by the test. Assumes nothing.
+-- `narrow_checker::state::doubt` meets its contract: refusals 1 and 2 by the shape, 5 by the test. Assumes nothing.
 use mathlib.Core.Path.{_≡_, sym, _∙_}
 use mathlib.Core.List.{[], _∷_}
 use Rattle.refusals.specs.First.{_when_, first, outside}
@@ -7,8 +7,8 @@ use Rattle.sumcheck.specs.Steps.{openingRules}
 use Rattle.sumcheck.proofs.Unrefused.{shape-turned, shape-passed}
 use Rattle.narrow_field.specs.Narrow.{p}
 use borrow.Author.Needs.{needs}
-use Rattle.narrow_checker.proofs.doubts.doubt.Statement.{statement}
-use Rattle.narrow_checker.proofs.doubts.doubt.Tie as tie
+use Rattle.narrow_checker.proofs.state.doubt.Statement.{statement}
+use Rattle.narrow_checker.proofs.state.doubt.Tie as tie
 
 -- the shape is right
 shaped : (c : tie.Else1) →

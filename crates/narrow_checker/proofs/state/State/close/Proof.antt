@@ -1,12 +1,12 @@
--- `narrow_checker::steps::State::close` meets its contract: one law of closing for each path. Assumes nothing.
+-- `narrow_checker::state::State::close` meets its contract: one law of closing for each path. Assumes nothing.
 use borrow.Author.Tests.{eq-eqb, ne-eqb}
 use Rattle.sumcheck.proofs.Steps.{close-refused, close-marked, close-accepted, close-differs, close-taken}
 use Rattle.narrow_field.specs.Narrow.{p}
 use Rattle.narrow_checker.specs.Said.{stateOf}
 use borrow.Author.Needs.{needs}
 use native.Mathlib.Omega.{arith}
-use Rattle.narrow_checker.proofs.steps.State.close.Statement.{statement}
-use Rattle.narrow_checker.proofs.steps.State.close.Tie as tie
+use Rattle.narrow_checker.proofs.state.State.close.Statement.{statement}
+use Rattle.narrow_checker.proofs.state.State.close.Tie as tie
 
 close-refusal-requires : tie.Need-close-refusal-requires
 close-refusal-requires c κs = search needs
