@@ -34,10 +34,10 @@ fn is_open(state: State) -> bool
 fn close_refusal(state: State, value: u32) -> u32
     ensures { λ r. ⌜ r ≡ first (closingRules p (stateOf state) value) ⌝ }
 {
-    let number = doubt(state.vars, state.degree, state.claim);
+    let doubts = doubt(state.vars, state.degree, state.claim);
     let open = is_open(state);
-    if number != 0 {
-        return number;
+    if doubts != 0 {
+        return doubts;
     }
     if open {
         return 7;
