@@ -10,8 +10,11 @@ use Rattle.polynomial.specs.Elements.{Every}
 use Rattle.sumcheck.specs.Corners.{corners}
 use Rattle.sumcheck.specs.Function.{f, trueSum}
 use Rattle.sumcheck.specs.Rounds.{truePolynomial}
+use Rattle.refusals.specs.First.{Answer, refused, given}
+use Rattle.sumcheck.specs.Lent.{parts}
+use Rattle.sumcheck.specs.Entries.{checkerAnswer}
 use Rattle.sumcheck.specs.Protocol.{Rounds, reached, failed, rounds, Verdict, accepted, rejected, verdict}
-use Rattle.cases.specs.Cases.{Case, sum, at, round, check, last, Holds, cases, EveryCase}
+use Rattle.cases.specs.Cases.{Case, sum, at, round, check, lent, last, Holds, cases, EveryCase}
 
 abbrev both : Bool → Bool → Bool
 both true b = b
@@ -62,12 +65,25 @@ sameRounds-equal (reached a) (failed j) t = absurd t
 sameRounds-equal (failed i) (reached b) t = absurd t
 sameRounds-equal (failed i) (failed j) t = ap failed (eqb→eq i j t)
 
+abbrev sameAnswer : Answer Verdict → Answer Verdict → Bool
+sameAnswer (given a) (given b) = sameVerdict a b
+sameAnswer (given a) (refused j) = false
+sameAnswer (refused i) (given b) = false
+sameAnswer (refused i) (refused j) = eqb i j
+
+sameAnswer-equal : (a b : Answer Verdict) → T (sameAnswer a b) → a ≡ b
+sameAnswer-equal (given a) (given b) t = ap given (sameVerdict-equal a b t)
+sameAnswer-equal (given a) (refused j) t = absurd t
+sameAnswer-equal (refused i) (given b) t = absurd t
+sameAnswer-equal (refused i) (refused j) t = ap refused (eqb→eq i j t)
+
 -- the test of a case
 abbrev test : Case → Bool
 test (sum n ts vars answer) = eqb (trueSum n ts vars) answer
 test (at n ts point answer) = eqb (f n ts point) answer
 test (round n ts rs rest answer) = sameList (truePolynomial n ts rs rest) answer
 test (check n ts claim rs ms answer) = sameVerdict (verdict n ts claim rs ms) answer
+test (lent n vars degree ts claim rs ms a) = sameAnswer (checkerAnswer n vars degree ts claim rs ms) a
 test (last n claim rs ms answer) = sameRounds (rounds n claim rs ms) answer
 
 tested : (c : Case) → T (test c) → Holds c
@@ -75,6 +91,7 @@ tested (sum n ts vars answer) t = eqb→eq (trueSum n ts vars) answer t
 tested (at n ts point answer) t = eqb→eq (f n ts point) answer t
 tested (round n ts rs rest answer) t = sameList-equal (truePolynomial n ts rs rest) answer t
 tested (check n ts claim rs ms answer) t = sameVerdict-equal (verdict n ts claim rs ms) answer t
+tested (lent n vars degree ts claim rs ms a) t = sameAnswer-equal (checkerAnswer n vars degree ts claim rs ms) a t
 tested (last n claim rs ms answer) t = sameRounds-equal (rounds n claim rs ms) answer t
 
 abbrev tests : List Case → Bool
@@ -87,4 +104,4 @@ every-tested (c ∷ cs) t = (tested c (left (test c) (tests cs) t), every-tested
 
 pub every-case : EveryCase
 unfolding EveryCase
-every-case = every-tested cases (unfold corners pow in tt)
+every-case = every-tested cases (unfold corners pow parts in tt)

@@ -13,6 +13,18 @@
 --   Terms         a round's polynomial as loops make it
 --   Progress      the prover's progress, a round at a time
 --   Search        the walk for refusal 5: table by table, place by place
+--   Walk          the rounds taken one by one from a lent message list
+--   Unrefused     what a call knows that was not refused
+--   Entries       what the checker knows of what was lent to it
+--   Part          where the round part lies, and that it is the message that is judged
+--   Steps         the paths of opening, a step and closing
+--   Course        every sum agrees, or there is a first that fails
+--   Messages      a lent list as messages, and messages as a list
+--   Checker       the demands on the checker's own answer (specs/Checker)
+--   TrueClaim     a true claim is accepted by the checker's own answer
+--   Followed      the protocol's own course over inputs of steps
+--   Sequences     any sequence of steps answers as the protocol does (specs/Sequences)
+--   Agreement     steps and closing agree with the checker
 --   Completeness  Soundness   the demands of specs/Demands
 pub mod Corners
 pub mod Extension
@@ -31,3 +43,15 @@ pub mod Written
 pub mod FoldedParts
 pub mod Terms
 pub mod Progress
+pub mod Walk
+pub mod Unrefused
+pub mod Part
+pub mod Entries
+pub mod Steps
+pub mod Course
+pub mod Messages
+pub mod Checker
+pub mod TrueClaim
+pub mod Followed
+pub mod Sequences
+pub mod Agreement

@@ -73,24 +73,29 @@ scratchAfter n vars degree tables challenges messages scratch =
     (replicate (tablesLength vars degree) 0 ++ drop (tablesLength vars degree) scratch)
     scratch
 
--- the checker with tables
-abbrev pub checkerAnswer : ℕ → ℕ → ℕ → List ℕ → ℕ → List ℕ → List ℕ → Answer Verdict
-checkerAnswer n vars degree tables claim challenges messages =
-    decide
-    (1 when badVars vars
+-- the checker with tables: its refusals, and its answer
+abbrev pub checkerRules : ℕ → ℕ → ℕ → List ℕ → ℕ → List ℕ → List ℕ → List Rule
+checkerRules n vars degree tables claim challenges messages =
+    1 when badVars vars
     ∷ 2 when badDegree degree
     ∷ 3 when either (notLong (tablesLength vars degree) tables) (either (notLong vars challenges) (notLong (messagesLength vars degree) messages))
-    ∷ 5 when outside n (tables ++ claim ∷ challenges ++ messages)
-    ∷ [])
+    ∷ 5 when outside n (tables ++ (claim ∷ challenges ++ messages))
+    ∷ []
+
+abbrev pub checkerAnswer : ℕ → ℕ → ℕ → List ℕ → ℕ → List ℕ → List ℕ → Answer Verdict
+checkerAnswer n vars degree tables claim challenges messages =
+    decide (checkerRules n vars degree tables claim challenges messages)
     (verdict n (tablesOf vars degree tables) claim challenges (messagesOf vars degree messages))
 
 -- the checker without tables
-abbrev pub roundsAnswer : ℕ → ℕ → ℕ → ℕ → List ℕ → List ℕ → Answer Rounds
-roundsAnswer n vars degree claim challenges messages =
-    decide
-    (1 when badVars vars
+abbrev pub roundsRules : ℕ → ℕ → ℕ → ℕ → List ℕ → List ℕ → List Rule
+roundsRules n vars degree claim challenges messages =
+    1 when badVars vars
     ∷ 2 when badDegree degree
     ∷ 3 when either (notLong vars challenges) (notLong (messagesLength vars degree) messages)
     ∷ 5 when outside n (claim ∷ challenges ++ messages)
-    ∷ [])
-    (rounds n claim challenges (messagesOf vars degree messages))
+    ∷ []
+
+abbrev pub roundsAnswer : ℕ → ℕ → ℕ → ℕ → List ℕ → List ℕ → Answer Rounds
+roundsAnswer n vars degree claim challenges messages =
+    decide (roundsRules n vars degree claim challenges messages) (rounds n claim challenges (messagesOf vars degree messages))

@@ -7,6 +7,10 @@
 --   Demands     what is demanded: demands 2 and 3 as statements
 --   Lent        what a caller lends, and the tests that turn it down
 --   Entries     what each entry answers and leaves, refusals in order
+--   Steps       the checker in steps: the state, opening, a step, closing
+--   Checker     what is demanded of the checker's own answer
+--   Sequences   sequences of steps answer as the protocol does, and agree with the checker
+--   Part        the round part of a message list
 --   Folding     halving a table by a challenge: not the document's words, and cited by no promise of an entry
 pub mod Corners
 pub mod Extension
@@ -16,4 +20,8 @@ pub mod Protocol
 pub mod Demands
 pub mod Lent
 pub mod Entries
+pub mod Steps
+pub mod Part
+pub mod Checker
+pub mod Sequences
 pub mod Folding

@@ -1,0 +1,56 @@
+// The round part (document 01, "What is offered"): asked for round j, from 1, of a message list, the part of the caller's own list, not a copy.
+ghost use mathlib.Core.Path.{_≡_};
+ghost use denote.Ref.{ptr};
+ghost use Rattle.sumcheck.specs.Lent.{messagesLength};
+ghost use Rattle.sumcheck.specs.Part.{partRefusal, partStart, partOf};
+ghost use Rattle.narrow_checker.specs.Place.{placeAt};
+use narrow_tables::judge;
+
+// x as a usize.
+pub(crate) fn wide(x: u32) -> usize
+    ensures { λ r. ⌜ r ≡ x ⌝ }
+{
+    x as usize
+}
+
+// How many numbers the messages have.
+pub fn messages_length(vars: u32, degree: u32) -> usize
+    ensures { λ r. ⌜ r ≡ messagesLength vars degree ⌝ }
+{
+    wide(vars) * (wide(degree) + 1)
+}
+
+// The number of the refusal; 0 if none.
+pub fn round_part_refusal(vars: u32, degree: u32, messages: &[u32], round: u32) -> u32
+    ensures { λ r. ⌜ r ≡ partRefusal vars degree (now (messages .entry)) round ⌝ }
+{
+    let shape = judge::shape(vars, degree);
+    if shape != 0 {
+        return shape;
+    }
+    if messages.len() != messages_length(vars, degree) {
+        return 3;
+    }
+    if round == 0 {
+        return 8;
+    }
+    if vars < round {
+        return 8;
+    }
+    0
+}
+
+// Round j's message as a part of the list: it starts at (j-1)(k+1) of the caller's own list, and has k+1 numbers. Where refused, the empty part
+// at the list's start.
+pub fn round_part(vars: u32, degree: u32, messages: &[u32], round: u32) -> &[u32]
+    ensures part { λ r. ⌜ now r ≡ partOf vars degree (now (messages .entry)) round ⌝ }
+    ensures place { λ r. ⌜ ptr r ≡ placeAt (ptr (messages .entry)) (partStart vars degree (now (messages .entry)) round) ⌝ }
+{
+    if round_part_refusal(vars, degree, messages, round) != 0 {
+        return &messages[0..0];
+    }
+    let width = wide(degree) + 1;
+    let start = wide(round - 1) * width;
+    let end = start + width;
+    &messages[start..end]
+}
