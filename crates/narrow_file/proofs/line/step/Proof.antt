@@ -1,0 +1,52 @@
+use borrow.Author.Needs.{needs}
+use Rattle.narrow_file.proofs.line.step.Statement.{statement}
+use Rattle.narrow_file.proofs.line.step.Tie as tie
+use Rattle.narrow_file.proofs.line.step.Reads as reads
+use Rattle.narrow_file.proofs.line.step.Lts as lts
+use Rattle.narrow_file.proofs.line.in_numbers.Reads as in-numbers-reads
+use Rattle.narrow_file.proofs.line.in_word.Reads as in-word-reads
+
+-- src/line.rt:190:21
+enum-known-state : tie.Need-enum-known-state
+enum-known-state c = search needs
+
+-- src/line.rt:190:33
+in-word-requires : tie.Need-in-word-requires
+in-word-requires c κs = search needs
+
+-- src/line.rt:191:24
+enum-known-state-2 : tie.Need-enum-known-state-2
+enum-known-state-2 c = search needs
+
+-- src/line.rt:191:30
+in-numbers-requires : tie.Need-in-numbers-requires
+in-numbers-requires c κs = search needs
+
+-- src/line.rt:192:23
+enum-told : tie.Need-enum-told
+enum-told c = search needs
+
+-- src/line.rt:185:1
+returns : tie.Need-returns
+returns c = ?
+
+-- src/line.rt:185:1
+returns-2 : tie.Need-returns-2
+returns-2 c = ?
+
+-- src/line.rt:185:1
+returns-3 : tie.Need-returns-3
+returns-3 c = search needs
+
+pub step-spec : {M : Type 1} → statement M
+step-spec =
+    tie.close
+    (tie.spec
+    enum-known-state
+    in-word-requires
+    enum-known-state-2
+    in-numbers-requires
+    enum-told
+    returns
+    returns-2
+    returns-3)

@@ -1,0 +1,4 @@
+-- What the reader of narrow files answers.
+--   Narrow   the layout of narrow files, the reader's answer, and the lent list after the call
+--   Steps    what the reader's inner functions promise; nothing that a caller is promised rests on it
+pub mod Steps
