@@ -1,3 +1,5 @@
 -- The laws behind the reader's proofs.
 --   Paths     each inner function's answers, one law for each path through its code
+--   Machine   the machine that reads a line comes to what the layout says
 pub mod Paths
+pub mod Machine

@@ -29,6 +29,15 @@ meant LineEnd = bytes.lineEnd
 meant Letter = bytes.letter
 meant Other = bytes.other
 
+-- the class of line ends
+abbrev pub isEnd : bytes.Class → Bool
+isEnd bytes.lineEnd = true
+isEnd bytes.digit = false
+isEnd bytes.comma = false
+isEnd bytes.equals = false
+isEnd bytes.letter = false
+isEnd bytes.other = false
+
 -- a value that is greater is held as this one
 abbrev pub cap : ℕ
 cap = 18446744073709551610

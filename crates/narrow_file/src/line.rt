@@ -7,7 +7,7 @@ ghost use lib.ListN.{drop};
 ghost use Rattle.layout.specs.Bytes.{classOf, isLetter};
 ghost use Rattle.layout.specs.Number.{all};
 ghost use Rattle.layout.specs.Line.{lineAt};
-ghost use Rattle.narrow_file.specs.Steps.{meant, cap, moreOf, stillOf, withDigit, withComma, withLetter, opened, inWord, inNumbers, stepOf, closedNumber, closedOf, saidLine, brief, lineWanted};
+ghost use Rattle.narrow_file.specs.Steps.{meant, isEnd, cap, moreOf, stillOf, withDigit, withComma, withLetter, opened, inWord, inNumbers, stepOf, closedNumber, closedOf, saidLine, brief, lineWanted};
 
 // The class of a byte.
 pub enum Class {
@@ -152,6 +152,20 @@ fn open(letters: usize, word: &[u8], wanted: Wanted) -> State
     }
 }
 
+// Whether a byte of a class ends a line.
+fn ends(class: Class) -> bool
+    ensures { λ r. ⌜ r ≡ isEnd (meant class) ⌝ }
+{
+    match class {
+        Class::LineEnd => true,
+        Class::Digit => false,
+        Class::Comma => false,
+        Class::Equals => false,
+        Class::Letter => false,
+        Class::Other => false,
+    }
+}
+
 // What a byte does to a word that is being read.
 fn in_word(letters: usize, word: &[u8], wanted: Wanted, class: Class, b: u8) -> State
     ensures { λ r. ⌜ r ≡ inWord wanted (now (word .entry)) letters b (meant class) ⌝ }
@@ -240,7 +254,7 @@ pub(crate) fn line_at(bytes: &[u8], at: usize, word: &[u8], wanted: Wanted) -> L
         let b = bytes[i];
         i += 1;
         let class = class_of(b);
-        if let Class::LineEnd = class {
+        if ends(class) {
             return closed(state, wanted, i);
         }
         state = step(state, word, wanted, class, b);

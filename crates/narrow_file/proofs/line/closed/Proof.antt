@@ -1,3 +1,4 @@
+-- `narrow_file::line::closed` meets its contract: the state says which case holds. Assumes nothing.
 use borrow.Author.Needs.{needs}
 use Rattle.narrow_file.proofs.line.closed.Statement.{statement}
 use Rattle.narrow_file.proofs.line.closed.Tie as tie
@@ -5,33 +6,26 @@ use Rattle.narrow_file.proofs.line.closed.Reads as reads
 use Rattle.narrow_file.proofs.line.closed.Lts as lts
 use Rattle.narrow_file.proofs.line.closed_number.Reads as closed-number-reads
 
--- src/line.rt:220:27
 enum-told : tie.Need-enum-told
 enum-told c = search needs
 
--- src/line.rt:221:24
 enum-known-state : tie.Need-enum-known-state
 enum-known-state c = search needs
 
--- src/line.rt:221:30
 closed-number-requires : tie.Need-closed-number-requires
 closed-number-requires c κs = search needs
 
--- src/line.rt:222:23
 enum-told-2 : tie.Need-enum-told-2
 enum-told-2 c = search needs
 
--- src/line.rt:215:1
 returns : tie.Need-returns
-returns c = ?
+returns c = λ bytes. rw (c .enum-told .given .1)
 
--- src/line.rt:215:1
 returns-2 : tie.Need-returns-2
-returns-2 c = ?
+returns-2 c = λ bytes. rw (c .before .before .state .given .1) (c .closed-number .ensures bytes)
 
--- src/line.rt:215:1
 returns-3 : tie.Need-returns-3
-returns-3 c = ?
+returns-3 c = λ bytes. rw (c .enum-told2 .given .1)
 
 pub closed-spec : {M : Type 1} → statement M
 closed-spec =

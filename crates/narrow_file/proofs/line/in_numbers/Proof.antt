@@ -1,3 +1,5 @@
+-- `narrow_file::line::in_numbers` meets its contract: the class says which case holds, and that the byte is a digit. Assumes nothing.
+use Rattle.layout.proofs.Classes.{means}
 use borrow.Author.Needs.{needs}
 use Rattle.narrow_file.proofs.line.in_numbers.Statement.{statement}
 use Rattle.narrow_file.proofs.line.in_numbers.Tie as tie
@@ -6,59 +8,45 @@ use Rattle.narrow_file.proofs.line.in_numbers.Lts as lts
 use Rattle.narrow_file.proofs.line.with_comma.Reads as with-comma-reads
 use Rattle.narrow_file.proofs.line.with_digit.Reads as with-digit-reads
 
--- src/line.rt:175:25
 enum-told : tie.Need-enum-told
 enum-told c = search needs
 
--- src/line.rt:175:25
 with-digit-requires : tie.Need-with-digit-requires
-with-digit-requires c κs = ?
+with-digit-requires c κs = rw (c .enum-told .given .1) at (rw (← (c .before .before .pre)) at (means (c .before .before .args .b)))
 
--- src/line.rt:176:25
 enum-told-2 : tie.Need-enum-told-2
 enum-told-2 c = search needs
 
--- src/line.rt:176:25
 with-comma-requires : tie.Need-with-comma-requires
 with-comma-requires c κs = search needs
 
--- src/line.rt:177:26
 enum-told-3 : tie.Need-enum-told-3
 enum-told-3 c = search needs
 
--- src/line.rt:178:27
 enum-told-4 : tie.Need-enum-told-4
 enum-told-4 c = search needs
 
--- src/line.rt:179:26
 enum-told-5 : tie.Need-enum-told-5
 enum-told-5 c = search needs
 
--- src/line.rt:180:25
 enum-told-6 : tie.Need-enum-told-6
 enum-told-6 c = search needs
 
--- src/line.rt:170:1
 returns : tie.Need-returns
-returns c = ?
+returns c = rw (c .before .enum-told .given .1) (c .with-digit .ensures)
 
--- src/line.rt:170:1
 returns-2 : tie.Need-returns-2
-returns-2 c = ?
+returns-2 c = rw (c .before .enum-told2 .given .1) (c .with-comma .ensures)
 
--- src/line.rt:170:1
 returns-3 : tie.Need-returns-3
 returns-3 c = search needs
 
--- src/line.rt:170:1
 returns-4 : tie.Need-returns-4
 returns-4 c = search needs
 
--- src/line.rt:170:1
 returns-5 : tie.Need-returns-5
 returns-5 c = search needs
 
--- src/line.rt:170:1
 returns-6 : tie.Need-returns-6
 returns-6 c = search needs
 

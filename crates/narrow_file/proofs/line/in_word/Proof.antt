@@ -1,3 +1,4 @@
+-- `narrow_file::line::in_word` meets its contract: the class says which case holds. Assumes nothing.
 use borrow.Author.Needs.{needs}
 use Rattle.narrow_file.proofs.line.in_word.Statement.{statement}
 use Rattle.narrow_file.proofs.line.in_word.Tie as tie
@@ -6,59 +7,45 @@ use Rattle.narrow_file.proofs.line.in_word.Lts as lts
 use Rattle.narrow_file.proofs.line.open.Reads as open-reads
 use Rattle.narrow_file.proofs.line.with_letter.Reads as with-letter-reads
 
--- src/line.rt:160:26
 enum-told : tie.Need-enum-told
 enum-told c = search needs
 
--- src/line.rt:160:26
 with-letter-requires : tie.Need-with-letter-requires
 with-letter-requires c κs = search needs
 
--- src/line.rt:161:26
 enum-told-2 : tie.Need-enum-told-2
 enum-told-2 c = search needs
 
--- src/line.rt:161:26
 open-requires : tie.Need-open-requires
 open-requires c κs = search needs
 
--- src/line.rt:162:25
 enum-told-3 : tie.Need-enum-told-3
 enum-told-3 c = search needs
 
--- src/line.rt:163:25
 enum-told-4 : tie.Need-enum-told-4
 enum-told-4 c = search needs
 
--- src/line.rt:164:27
 enum-told-5 : tie.Need-enum-told-5
 enum-told-5 c = search needs
 
--- src/line.rt:165:25
 enum-told-6 : tie.Need-enum-told-6
 enum-told-6 c = search needs
 
--- src/line.rt:156:1
 returns : tie.Need-returns
-returns c = ?
+returns c = rw (c .before .enum-told .given .1) (c .with-letter .ensures)
 
--- src/line.rt:156:1
 returns-2 : tie.Need-returns-2
-returns-2 c = ?
+returns-2 c = rw (c .before .enum-told2 .given .1) (c .«open» .ensures)
 
--- src/line.rt:156:1
 returns-3 : tie.Need-returns-3
 returns-3 c = search needs
 
--- src/line.rt:156:1
 returns-4 : tie.Need-returns-4
 returns-4 c = search needs
 
--- src/line.rt:156:1
 returns-5 : tie.Need-returns-5
 returns-5 c = search needs
 
--- src/line.rt:156:1
 returns-6 : tie.Need-returns-6
 returns-6 c = search needs
 

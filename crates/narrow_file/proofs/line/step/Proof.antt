@@ -1,3 +1,4 @@
+-- `narrow_file::line::step` meets its contract: the state says which case holds. Assumes nothing.
 use borrow.Author.Needs.{needs}
 use Rattle.narrow_file.proofs.line.step.Statement.{statement}
 use Rattle.narrow_file.proofs.line.step.Tie as tie
@@ -6,35 +7,27 @@ use Rattle.narrow_file.proofs.line.step.Lts as lts
 use Rattle.narrow_file.proofs.line.in_numbers.Reads as in-numbers-reads
 use Rattle.narrow_file.proofs.line.in_word.Reads as in-word-reads
 
--- src/line.rt:190:21
 enum-known-state : tie.Need-enum-known-state
 enum-known-state c = search needs
 
--- src/line.rt:190:33
 in-word-requires : tie.Need-in-word-requires
 in-word-requires c κs = search needs
 
--- src/line.rt:191:24
 enum-known-state-2 : tie.Need-enum-known-state-2
 enum-known-state-2 c = search needs
 
--- src/line.rt:191:30
 in-numbers-requires : tie.Need-in-numbers-requires
 in-numbers-requires c κs = search needs
 
--- src/line.rt:192:23
 enum-told : tie.Need-enum-told
 enum-told c = search needs
 
--- src/line.rt:185:1
 returns : tie.Need-returns
-returns c = ?
+returns c = rw (c .before .before .state .given .1, ← (c .before .before .before .before .before .pre)) (c .in-word .ensures)
 
--- src/line.rt:185:1
 returns-2 : tie.Need-returns-2
-returns-2 c = ?
+returns-2 c = rw (c .before .before .state2 .given .1, ← (c .before .before .before .before .before .pre)) (c .in-numbers .ensures)
 
--- src/line.rt:185:1
 returns-3 : tie.Need-returns-3
 returns-3 c = search needs
 
