@@ -1,5 +1,7 @@
 -- The laws behind the reader's proofs.
 --   Paths     each inner function's answers, one law for each path through its code
 --   Machine   the machine that reads a line comes to what the layout says
+--   Runs      the machine from a place of the bytes on
 pub mod Paths
 pub mod Machine
+pub mod Runs

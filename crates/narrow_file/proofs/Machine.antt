@@ -40,6 +40,10 @@ end-test b = go (classOf b) (means b)
     go bytes.letter h = sym (ne-eqb b 10 (λ e. omega arith))
     go bytes.other h = sym (ne-eqb b 10 (h .3))
 
+-- so the code's test of the class is a test of the byte
+pub end-told : (b : ℕ) (k : bytes.Class) (r t : Bool) → k ≡ classOf b → r ≡ isEnd k → r ≡ t → eqb b 10 ≡ t
+end-told b k r t e f g = sym (end-test b) ∙ (ap isEnd (sym e) ∙ (sym f ∙ g))
+
 module _ (w : Wanted) (word : List ℕ) where
   -- the machine's steps over a text
   abbrev pub stepsOf : State → List ℕ → State
