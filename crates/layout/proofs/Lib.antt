@@ -2,6 +2,8 @@
 --   Tests     tests and the facts that they stand for
 --   Classes   the class of a byte
 --   Numbers   numbers in decimal digits, and parts
+--   Lines     what is known of bytes by what is found in them
 pub mod Tests
 pub mod Classes
 pub mod Numbers
+pub mod Lines

@@ -2,6 +2,10 @@
 --   Paths     each inner function's answers, one law for each path through its code
 --   Machine   the machine that reads a line comes to what the layout says
 --   Runs      the machine from a place of the bytes on
+--   Chain     from line to line
+--   Collect   the numbers of the second pass are those of the first
 pub mod Paths
 pub mod Machine
 pub mod Runs
+pub mod Chain
+pub mod Collect
