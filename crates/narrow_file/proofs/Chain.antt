@@ -23,6 +23,28 @@ use Rattle.narrow_file.specs.Steps.{Brief, stopped, went, brief, saidLin
 use Rattle.narrow_file.specs.Passes.{bare}
 use Rattle.narrow_file.proofs.Runs.{drop-here}
 
+-- what the code wants of each line
+abbrev pub editionWanted : Wanted
+editionWanted = record { line = 1; commas = 0; digits = 10; low = 1; high = 1 }
+
+abbrev pub fieldWanted : Wanted
+fieldWanted = record { line = 2; commas = 0; digits = 10; low = 2147483647; high = 2147483647 }
+
+abbrev pub varsWanted : Wanted
+varsWanted = record { line = 3; commas = 0; digits = 10; low = 0; high = 16 }
+
+abbrev pub degreeWanted : Wanted
+degreeWanted = record { line = 4; commas = 0; digits = 10; low = 1; high = 3 }
+
+abbrev pub claimWanted : Wanted
+claimWanted = record { line = 5; commas = 0; digits = 10; low = 0; high = 2147483646 }
+
+abbrev pub roundWanted : ℕ → ℕ → Wanted
+roundWanted n degree = record { line = n; commas = degree; digits = 10; low = 0; high = 2147483646 }
+
+abbrev pub endWanted : ℕ → ℕ → Wanted
+endWanted n vars = record { line = n; commas = 0; digits = 10; low = vars; high = vars }
+
 between-exact : (e n : ℕ) → between e e n ≡ eqb n e
 between-exact e n = go (eqb n e) refl
   where
@@ -49,22 +71,25 @@ allows : (word : List ℕ) (count most : ℕ) (f g : ℕ → Bool) → ((n : ℕ
   → _≡_ {A = layout.Line} (record { word = word; count = count; most = most; allowed = f }) (record { word = word; count = count; most = most; allowed = g })
 allows word count most f g h = ap (λ (test : ℕ → Bool). record { word = word; count = count; most = most; allowed = test }) (fun-ext h)
 
-pub edition-line : lineWanted (editionLine narrow .word) (record { line = 1; commas = 0; digits = 10; low = 1; high = 1 }) ≡ editionLine narrow
+pub edition-line : lineWanted (editionLine narrow .word) editionWanted ≡ editionLine narrow
 edition-line = allows _ _ _ _ _ (between-exact 1)
 
-pub field-line : lineWanted (fieldLine narrow .word) (record { line = 2; commas = 0; digits = 10; low = 2147483647; high = 2147483647 }) ≡ fieldLine narrow
+pub field-line : lineWanted (fieldLine narrow .word) fieldWanted ≡ fieldLine narrow
 field-line = allows _ _ _ _ _ (between-exact 2147483647)
 
-pub vars-line : lineWanted (varsLine narrow .word) (record { line = 3; commas = 0; digits = 10; low = 0; high = 16 }) ≡ varsLine narrow
+pub vars-line : lineWanted (varsLine narrow .word) varsWanted ≡ varsLine narrow
 vars-line = allows _ _ _ _ _ (between-upto 16)
 
-pub claim-line : lineWanted (claimLine narrow .word) (record { line = 5; commas = 0; digits = 10; low = 0; high = 2147483646 }) ≡ claimLine narrow
+pub degree-line : lineWanted (degreeLine narrow .word) degreeWanted ≡ degreeLine narrow
+degree-line = refl
+
+pub claim-line : lineWanted (claimLine narrow .word) claimWanted ≡ claimLine narrow
 claim-line = allows _ _ _ _ _ (λ n. between-below 2147483646 2147483647 n refl)
 
-pub round-line : (n degree : ℕ) → lineWanted (roundLine narrow degree .word) (record { line = n; commas = degree; digits = 10; low = 0; high = 2147483646 }) ≡ roundLine narrow degree
+pub round-line : (n degree : ℕ) → lineWanted (roundLine narrow degree .word) (roundWanted n degree) ≡ roundLine narrow degree
 round-line n degree = allows _ _ _ _ _ (λ m. between-below 2147483646 2147483647 m refl)
 
-pub end-line : (n vars : ℕ) → lineWanted (endLine narrow vars .word) (record { line = n; commas = 0; digits = 10; low = vars; high = vars }) ≡ endLine narrow vars
+pub end-line : (n vars : ℕ) → lineWanted (endLine narrow vars .word) (endWanted n vars) ≡ endLine narrow vars
 end-line n vars = allows _ _ _ _ _ (between-exact vars)
 
 -- what the answer of a line says of the answer that goes on from it
@@ -89,7 +114,7 @@ module _ (bytes : List ℕ) (at n : ℕ) {wanted line : layout.Line} (same : wan
 
 -- after the `end` line: something, or nothing
 module _ (bytes : List ℕ) (at v d c : ℕ) (cs : List ℕ) (r : Line)
-  (says : saidLine bytes r ≡ brief (lineAt (v + 6) (lineWanted (endLine narrow v .word) (record { line = v + 6; commas = 0; digits = 10; low = v; high = v })) (drop at bytes))) where
+  (says : saidLine bytes r ≡ brief (lineAt (v + 6) (lineWanted (endLine narrow v .word) (endWanted (v + 6) v)) (drop at bytes))) where
   pub end-some : {last place : ℕ} → r ≡ Found last place → place < length bytes → refused 13 (v + 7) ≡ fromEnd narrow v d c cs (drop at bytes)
   unfolding fromEnd
   end-some {last} {place} e h =
@@ -131,7 +156,7 @@ module _ (bytes : List ℕ) (at n : ℕ) {wanted line : layout.Line} (same : wan
 
 -- round j + 1 of so many, on line j + 6
 module _ (bytes : List ℕ) (at vars degree j : ℕ) (h : j < vars) (r : Line)
-  (says : saidLine bytes r ≡ brief (lineAt (j + 6) (lineWanted (roundLine narrow degree .word) (record { line = j + 6; commas = degree; digits = 10; low = 0; high = 2147483646 })) (drop at bytes))) where
+  (says : saidLine bytes r ≡ brief (lineAt (j + 6) (lineWanted (roundLine narrow degree .word) (roundWanted (j + 6) degree)) (drop at bytes))) where
   left : vars - j ≡ suc (vars - (j + 1))
   left = omega arith
 

@@ -4,8 +4,10 @@
 --   Runs      the machine from a place of the bytes on
 --   Chain     from line to line
 --   Collect   the numbers of the second pass are those of the first
+--   Rounds    the answer from the rounds on
 pub mod Paths
 pub mod Machine
 pub mod Runs
 pub mod Chain
 pub mod Collect
+pub mod Rounds

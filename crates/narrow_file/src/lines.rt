@@ -2,7 +2,7 @@
 ghost use mathlib.Core.Path.{_≡_};
 ghost use Prim.Native.Nat.{_+_, _*_, _≤_};
 ghost use lib.ListN.{take, drop};
-ghost use Rattle.layout.specs.Answer.{answer, fromField, fromVars, fromDegree, fromClaim, fromRounds, fromEnd, linesAt, roundLine};
+ghost use Rattle.layout.specs.Answer.{answer, fromEdition, fromField, fromVars, fromDegree, fromClaim, fromRounds, fromEnd, linesAt, roundLine};
 ghost use Rattle.narrow_file.specs.Narrow.{narrow};
 ghost use Rattle.narrow_file.specs.Steps.{saidLine};
 ghost use Rattle.narrow_file.specs.Passes.{saidJudged, collect, bare};
@@ -17,7 +17,8 @@ pub enum Judged {
     File { vars: u32, degree: u32, claim: u32, rounds: usize },
 }
 
-// The modulus, and the most digits of a number.
+// The edition, the modulus, and the most digits of a number.
+const EDITION: u64 = 1;
 const P: u64 = 2147483647;
 const DIGITS: u32 = 10;
 
@@ -125,6 +126,18 @@ fn from_field(bytes: &[u8], at: usize) -> Judged
     }
 }
 
+// From the `sumproof` line on.
+fn from_edition(bytes: &[u8], at: usize) -> Judged
+    ensures { λ r. ⌜ saidJudged (now (bytes .entry)) r ≡ fromEdition narrow (drop at (now (bytes .entry))) ⌝ }
+{
+    let wanted = Wanted { line: 1, commas: 0, digits: DIGITS, low: EDITION, high: EDITION };
+    let found = line::line_at(bytes, at, b"sumproof", wanted);
+    match found {
+        Line::Refused { number, line } => Judged::Refused { number, line },
+        Line::Found { last: _, next } => from_field(bytes, next),
+    }
+}
+
 // Judges a whole file.
 pub(crate) fn judge(bytes: &[u8]) -> Judged
     ensures { λ r. ⌜ saidJudged (now (bytes .entry)) r ≡ answer narrow (now (bytes .entry)) ⌝ }
@@ -132,10 +145,5 @@ pub(crate) fn judge(bytes: &[u8]) -> Judged
     if refusals::MAX_FILE < bytes.len() {
         return Judged::Refused { number: 9, line: 0 };
     }
-    let wanted = Wanted { line: 1, commas: 0, digits: DIGITS, low: 1, high: 1 };
-    let found = line::line_at(bytes, 0, b"sumproof", wanted);
-    match found {
-        Line::Refused { number, line } => Judged::Refused { number, line },
-        Line::Found { last: _, next } => from_field(bytes, next),
-    }
+    from_edition(bytes, 0)
 }
