@@ -3,7 +3,9 @@
 --   Classes   the class of a byte
 --   Numbers   numbers in decimal digits, and parts
 --   Lines     what is known of bytes by what is found in them
+--   Answers   a list of bytes that is answered as a file, line by line
 pub mod Tests
 pub mod Classes
 pub mod Numbers
 pub mod Lines
+pub mod Answers

@@ -5,9 +5,11 @@
 --   Chain     from line to line
 --   Collect   the numbers of the second pass are those of the first
 --   Rounds    the answer from the rounds on
+--   Pour      the second pass from some place on
 pub mod Paths
 pub mod Machine
 pub mod Runs
 pub mod Chain
 pub mod Collect
 pub mod Rounds
+pub mod Pour
