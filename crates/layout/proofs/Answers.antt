@@ -17,7 +17,7 @@ use Rattle.layout.proofs.Lines.{Good, found-good}
 
 -- what an answer that is a file went on from
 went-on : (o : Outcome) (next : List ℕ → List ℕ → Answer) (v d c : ℕ) (cs : List ℕ) → answerThen o next ≡ file v d c cs
-  → (ns : List ℕ) × (rest : List ℕ) × (o ≡ found ns rest) × (next ns rest ≡ file v d c cs)
+    → (ns : List ℕ) × (rest : List ℕ) × (o ≡ found ns rest) × (next ns rest ≡ file v d c cs)
 went-on (fault a b) next v d c cs e = absurd (let z : _≡_ {A = ℕ} 0 1 = cc in omega arith)
 went-on (found ns rest) next v d c cs e = (ns, rest, refl, e)
 
@@ -44,7 +44,7 @@ pub record Whole (layout : Layout) (v d c : ℕ) (cs bytes : List ℕ) : Type 0 
   pub claim : c ≡ only (fifth .numbers)
 
 same-whole : (layout : Layout) (v v′ d d′ c c′ : ℕ) (cs cs′ bytes : List ℕ) → file v′ d′ c′ cs′ ≡ file v d c cs
-  → Whole layout v′ d′ c′ cs′ bytes → Whole layout v d c cs bytes
+    → Whole layout v′ d′ c′ cs′ bytes → Whole layout v d c cs bytes
 same-whole layout v v′ d d′ c c′ cs cs′ bytes e w =
     let p : v′ ≡ v = cc in
     let q : d′ ≡ d = cc in
@@ -57,11 +57,11 @@ same-whole layout v v′ d d′ c c′ cs cs′ bytes e w =
 
 module _ (layout : Layout) (v d c : ℕ) (cs bytes : List ℕ) (l : length bytes ≤ layout .mostBytes) where
   conclude : (a : At 1 (editionLine layout) bytes) (b : At 2 (fieldLine layout) (a .rest)) (x : At 3 (varsLine layout) (b .rest))
-    (y : At 4 (degreeLine layout) (x .rest)) (z : At 5 (claimLine layout) (y .rest)) (ms s ns rest : List ℕ)
-    → linesAt 6 (only (x .numbers)) (roundLine layout (only (y .numbers))) (z .rest) ≡ found ms s
-    → lineAt (only (x .numbers) + 6) (endLine layout (only (x .numbers))) s ≡ found ns rest
-    → fromAfter (only (x .numbers)) (only (y .numbers)) (only (z .numbers)) ms rest ≡ file v d c cs
-    → Whole layout v d c cs bytes
+      (y : At 4 (degreeLine layout) (x .rest)) (z : At 5 (claimLine layout) (y .rest)) (ms s ns rest : List ℕ)
+      → linesAt 6 (only (x .numbers)) (roundLine layout (only (y .numbers))) (z .rest) ≡ found ms s
+      → lineAt (only (x .numbers) + 6) (endLine layout (only (x .numbers))) s ≡ found ns rest
+      → fromAfter (only (x .numbers)) (only (y .numbers)) (only (z .numbers)) ms rest ≡ file v d c cs
+      → Whole layout v d c cs bytes
   conclude a b x y z ms s ns [] r e f =
       same-whole layout v (only (x .numbers)) d (only (y .numbers)) c (only (z .numbers)) cs ms bytes f
       (record {
@@ -77,7 +77,7 @@ module _ (layout : Layout) (v d c : ℕ) (cs bytes : List ℕ) (l : length bytes
         last = e;
         vars = refl;
         degree = refl;
-        claim = refl
+        claim = refl;
       })
   conclude a b x y z ms s ns (k ∷ rest) r e f = absurd (let w : _≡_ {A = ℕ} 0 1 = cc in omega arith)
 
@@ -104,7 +104,7 @@ unfolding answer
 whole layout v d c cs bytes e = size (ltb (layout .mostBytes) (length bytes)) refl e
   where
     size : (t : Bool) → ltb (layout .mostBytes) (length bytes) ≡ t
-      → choose (ltb (layout .mostBytes) (length bytes)) (refused 9 0) (fromEdition layout bytes) ≡ file v d c cs → Whole layout v d c cs bytes
+        → choose (ltb (layout .mostBytes) (length bytes)) (refused 9 0) (fromEdition layout bytes) ≡ file v d c cs → Whole layout v d c cs bytes
     size true f g = absurd (let g′ : refused 9 0 ≡ file v d c cs = rw f at g in let z : _≡_ {A = ℕ} 0 1 = cc in omega arith)
     size false f g = lines layout v d c cs bytes (ltb-false (layout .mostBytes) (length bytes) f) (rw f at g)
 
@@ -120,15 +120,16 @@ lines-count zero n line s cs rest e = let p : [] ≡ cs = cc in sym (ap length p
 lines-count (suc m) n line s cs rest e = first (lineAt n line s) refl e (λ s′ cs′. lines-count m (suc n) line s′ cs′ rest)
   where
     later : (ns s′ : List ℕ) (o : Outcome) → linesAt (suc n) m line s′ ≡ o → before ns o ≡ found cs rest → length ns ≡ line .count
-      → ((cs′ : List ℕ) → linesAt (suc n) m line s′ ≡ found cs′ rest → length cs′ ≡ m * line .count) → length cs ≡ suc m * line .count
+        → ((cs′ : List ℕ) → linesAt (suc n) m line s′ ≡ found cs′ rest → length cs′ ≡ m * line .count) → length cs ≡ suc m * line .count
     later ns s′ (fault a b) f g h ih = absurd (let z : _≡_ {A = ℕ} 0 1 = cc in omega arith)
     later ns s′ (found ms r) f g h ih =
         let p : ns ++ ms ≡ cs = cc in
         let q : r ≡ rest = cc in
         let i = ih ms (f ∙ ap (λ (x : List ℕ). found ms x) q) in
         sym (ap length p) ∙ (length-append ns ms ∙ omega arith)
+
     first : (o : Outcome) → lineAt n line s ≡ o → andThen o (λ s′. linesAt (suc n) m line s′) ≡ found cs rest
-      → ((s′ cs′ : List ℕ) → linesAt (suc n) m line s′ ≡ found cs′ rest → length cs′ ≡ m * line .count) → length cs ≡ suc m * line .count
+        → ((s′ cs′ : List ℕ) → linesAt (suc n) m line s′ ≡ found cs′ rest → length cs′ ≡ m * line .count) → length cs ≡ suc m * line .count
     first (fault a b) f g ih = absurd (let z : _≡_ {A = ℕ} 0 1 = cc in omega arith)
     first (found ns s′) f g ih = later ns s′ (linesAt (suc n) m line s′) refl g (found-count n line s ns s′ f) (ih s′)
 

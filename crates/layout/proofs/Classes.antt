@@ -32,7 +32,7 @@ class-letter b l h =
       ne-eqb b 44 (λ e. omega arith),
       ne-eqb b 61 (λ e. omega arith),
       ne-eqb b 10 (λ e. omega arith),
-      between-in 97 122 b l (omega arith)
+      between-in 97 122 b l (omega arith),
     )
 
 -- no byte of a class with one byte, no digit, no letter
@@ -57,15 +57,19 @@ means b = digits (isDigit b) refl
         let h = between-holds 97 122 b e in
         subst (λ (k : Class). Means k b) (sym (class-letter b (h .0) (omega arith))) h
     letters false e d c q l = subst (λ (k : Class). Means k b) (sym (class-other b c q l d e)) (d, c, q, l)
+
     lineEnds : (t : Bool) → eqb b 10 ≡ t → isDigit b ≡ false → (b ≡ 44 → ⊥) → (b ≡ 61 → ⊥) → Means (classOf b) b
     lineEnds true e d c q = let h = eqb-true b 10 e in subst (λ (k : Class). Means k b) (sym (class-line-end b h)) h
     lineEnds false e d c q = letters (isLetter b) refl d c q (eqb-false b 10 e)
+
     signs : (t : Bool) → eqb b 61 ≡ t → isDigit b ≡ false → (b ≡ 44 → ⊥) → Means (classOf b) b
     signs true e d c = let h = eqb-true b 61 e in subst (λ (k : Class). Means k b) (sym (class-equals b h)) h
     signs false e d c = lineEnds (eqb b 10) refl d c (eqb-false b 61 e)
+
     commas : (t : Bool) → eqb b 44 ≡ t → isDigit b ≡ false → Means (classOf b) b
     commas true e d = let h = eqb-true b 44 e in subst (λ (k : Class). Means k b) (sym (class-comma b h)) h
     commas false e d = signs (eqb b 61) refl d (eqb-false b 44 e)
+
     digits : (t : Bool) → isDigit b ≡ t → Means (classOf b) b
     digits true e =
         let h = between-holds 48 57 b e in

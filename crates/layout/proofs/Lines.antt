@@ -26,8 +26,9 @@ cut-ended (b ∷ s) text rest e = go (eqb b 10) refl e (cut-ended s)
         let q : r ≡ rest = cc in
         ap (λ (xs : List ℕ). b ∷ xs) (ih t r refl) ∙ (ap (λ (xs : List ℕ). b ∷ (t ++ 10 ∷ xs)) q ∙ ap (λ (xs : List ℕ). xs ++ 10 ∷ rest) p)
     again (unended t) ih f = absurd (let z : _≡_ {A = ℕ} 0 1 = cc in omega arith)
+
     go : (t : Bool) → eqb b 10 ≡ t → choose (eqb b 10) (ended [] s) (longer b (firstLine s)) ≡ ended text rest
-      → ((t r : List ℕ) → firstLine s ≡ ended t r → s ≡ t ++ 10 ∷ r) → b ∷ s ≡ text ++ 10 ∷ rest
+        → ((t r : List ℕ) → firstLine s ≡ ended t r → s ≡ t ++ 10 ∷ r) → b ∷ s ≡ text ++ 10 ∷ rest
     go true f g ih =
         let g′ : ended [] s ≡ ended text rest = rw f at g in
         let p : [] ≡ text = cc in
@@ -37,14 +38,14 @@ cut-ended (b ∷ s) text rest e = go (eqb b 10) refl e (cut-ended s)
 
 -- a text of right form after a beginning: the beginning, and numbers
 pub form-after : (line : Line) (beginning text ns : List ℕ) → formAfter line beginning text ≡ numbers ns
-  → (t : List ℕ) × (text ≡ beginning ++ t) × (numbersOf line t ≡ numbers ns)
+    → (t : List ℕ) × (text ≡ beginning ++ t) × (numbersOf line t ≡ numbers ns)
 form-after line [] text ns e = (text, refl, e)
 form-after line (b ∷ beginning) [] ns e = absurd (let z : _≡_ {A = ℕ} 0 1 = cc in omega arith)
 form-after line (b ∷ beginning) (c ∷ text) ns e = go (eqb c b) refl e (form-after line beginning text ns)
   where
     go : (t : Bool) → eqb c b ≡ t → choose (eqb c b) (formAfter line beginning text) formless ≡ numbers ns
-      → (formAfter line beginning text ≡ numbers ns → (t : List ℕ) × (text ≡ beginning ++ t) × (numbersOf line t ≡ numbers ns))
-      → (t : List ℕ) × (c ∷ text ≡ b ∷ (beginning ++ t)) × (numbersOf line t ≡ numbers ns)
+        → (formAfter line beginning text ≡ numbers ns → (t : List ℕ) × (text ≡ beginning ++ t) × (numbersOf line t ≡ numbers ns))
+        → (t : List ℕ) × (c ∷ text ≡ b ∷ (beginning ++ t)) × (numbersOf line t ≡ numbers ns)
     go true f g ih =
         let r = ih (rw f at g) in
         (r .0, ap (λ (n : ℕ). n ∷ text) (eqb-true c b f) ∙ ap (λ (xs : List ℕ). b ∷ xs) (r .1), r .2)
@@ -61,8 +62,8 @@ unfolding numbersOf
 numbers-parts line t ns e = go (eqb (length (parts t)) (line .count) && all (isNumber (line .most)) (parts t)) refl e
   where
     go : (b : Bool) → (eqb (length (parts t)) (line .count) && all (isNumber (line .most)) (parts t)) ≡ b
-      → choose (eqb (length (parts t)) (line .count) && all (isNumber (line .most)) (parts t)) (numbers (map value (parts t))) formless ≡ numbers ns
-      → Parts line t ns
+        → choose (eqb (length (parts t)) (line .count) && all (isNumber (line .most)) (parts t)) (numbers (map value (parts t))) formless ≡ numbers ns
+        → Parts line t ns
     go true f g =
         let r = both (eqb (length (parts t)) (line .count)) (all (isNumber (line .most)) (parts t)) f in
         let g′ : numbers (map value (parts t)) ≡ numbers ns = rw f at g in
@@ -94,9 +95,10 @@ found-good n line s ns rest e = cut (firstLine s) refl e
               text = a .0;
               bytes = g ∙ (ap (λ (xs : List ℕ). xs ++ 10 ∷ r) (a .1) ∙ ap (λ (xs : List ℕ). (line .word ++ 61 ∷ []) ++ a .0 ++ 10 ∷ xs) q);
               parted = subst (Parts line (a .0)) p (numbers-parts line (a .0) ms (a .2));
-              allowed = ap (all (line .allowed)) (sym p) ∙ k
+              allowed = ap (all (line .allowed)) (sym p) ∙ k;
             }
         test false k l = absurd (let l′ : fault 12 n ≡ found ns rest = rw k at l in let z : _≡_ {A = ℕ} 0 1 = cc in omega arith)
+
     cut : (c : Cut) → firstLine s ≡ c → outcome n line c ≡ found ns rest → Good line s ns rest
     cut (ended text r) f g = judge text r (form line text) refl (cut-ended s text r f) g
     cut (unended []) f g = absurd (let z : _≡_ {A = ℕ} 0 1 = cc in omega arith)

@@ -49,6 +49,6 @@ parts-some [] = ([], [], refl)
 parts-some (b ∷ text) = go (eqb b 44) refl (parts-some text)
   where
     go : (t : Bool) → eqb b 44 ≡ t → (part : List ℕ) × (more : List (List ℕ)) × (parts text ≡ part ∷ more)
-      → (part : List ℕ) × (more : List (List ℕ)) × (parts (b ∷ text) ≡ part ∷ more)
+        → (part : List ℕ) × (more : List (List ℕ)) × (parts (b ∷ text) ≡ part ∷ more)
     go true e p = ([], parts text, rw e)
     go false e p = (b ∷ p .0, p .1, rw (e, p .2))

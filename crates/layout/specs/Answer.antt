@@ -37,7 +37,7 @@ editionLine layout =
       word = 115 ∷ 117 ∷ 109 ∷ 112 ∷ 114 ∷ 111 ∷ 111 ∷ 102 ∷ [];
       count = 1;
       most = layout .editionDigits;
-      allowed = λ n. eqb n (layout .edition)
+      allowed = λ n. eqb n (layout .edition);
     }
 
 -- `field=2147483647`
@@ -47,7 +47,7 @@ fieldLine layout =
       word = 102 ∷ 105 ∷ 101 ∷ 108 ∷ 100 ∷ [];
       count = 1;
       most = layout .fieldDigits;
-      allowed = λ n. eqb n (layout .modulus)
+      allowed = λ n. eqb n (layout .modulus);
     }
 
 -- `vars=M`
@@ -57,7 +57,7 @@ varsLine layout =
       word = 118 ∷ 97 ∷ 114 ∷ 115 ∷ [];
       count = 1;
       most = layout .laterDigits;
-      allowed = λ n. leb n (layout .mostVars)
+      allowed = λ n. leb n (layout .mostVars);
     }
 
 -- `degree=K`
@@ -67,7 +67,7 @@ degreeLine layout =
       word = 100 ∷ 101 ∷ 103 ∷ 114 ∷ 101 ∷ 101 ∷ [];
       count = 1;
       most = layout .laterDigits;
-      allowed = λ n. between 1 (layout .mostDegree) n
+      allowed = λ n. between 1 (layout .mostDegree) n;
     }
 
 -- `claim=C`
@@ -77,7 +77,7 @@ claimLine layout =
       word = 99 ∷ 108 ∷ 97 ∷ 105 ∷ 109 ∷ [];
       count = 1;
       most = layout .laterDigits;
-      allowed = λ n. ltb n (layout .modulus)
+      allowed = λ n. ltb n (layout .modulus);
     }
 
 -- `round=` with K+1 numbers
@@ -87,7 +87,7 @@ roundLine layout degree =
       word = 114 ∷ 111 ∷ 117 ∷ 110 ∷ 100 ∷ [];
       count = layout .perRound degree;
       most = layout .laterDigits;
-      allowed = λ n. ltb n (layout .modulus)
+      allowed = λ n. ltb n (layout .modulus);
     }
 
 -- `end=M`

@@ -61,7 +61,7 @@ Exactly =
     (layout : Layout) (vars degree claim : ℕ) (coefficients bytes : List ℕ)
     → ((k : ℕ) → 1 ≤ k → 1 ≤ layout .perRound k)
     → (answer layout bytes ≡ file vars degree claim coefficients)
-      ↔ ((bytes ≡ fileOf layout vars degree claim coefficients) × WellFormed layout vars degree claim coefficients)
+    ↔ ((bytes ≡ fileOf layout vars degree claim coefficients) × WellFormed layout vars degree claim coefficients)
 
 -- so a list of bytes is the file of one set of well-formed parts only: no two different contents share a file
 abbrev pub OneContent : Type 0

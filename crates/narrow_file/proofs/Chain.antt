@@ -68,7 +68,7 @@ between-below m p n e = go (leb n m) refl
 
 -- the lines of the layout, as the code asks for them
 allows : (word : List ℕ) (count most : ℕ) (f g : ℕ → Bool) → ((n : ℕ) → f n ≡ g n)
-  → _≡_ {A = layout.Line} (record { word = word; count = count; most = most; allowed = f }) (record { word = word; count = count; most = most; allowed = g })
+    → _≡_ {A = layout.Line} (record { word = word; count = count; most = most; allowed = f }) (record { word = word; count = count; most = most; allowed = g })
 allows word count most f g h = ap (λ (test : ℕ → Bool). record { word = word; count = count; most = most; allowed = test }) (fun-ext h)
 
 pub edition-line : lineWanted (editionLine narrow .word) editionWanted ≡ editionLine narrow
@@ -105,7 +105,7 @@ module _ (bytes : List ℕ) (at n : ℕ) {wanted line : layout.Line} (same : wan
       go (found ns rest) f = absurd (let z : _≡_ {A = ℕ} 0 1 = cc in omega arith)
 
   pub then-found : {last place : ℕ} (next : ℕ → List ℕ → Answer) → r ≡ Found last place
-    → next last (drop place bytes) ≡ answerThen (lineAt n line (drop at bytes)) (λ ns rest. next (only ns) rest)
+      → next last (drop place bytes) ≡ answerThen (lineAt n line (drop at bytes)) (λ ns rest. next (only ns) rest)
   then-found {last} {place} next e = go (lineAt n line (drop at bytes)) (outcome-is ∙ ap (saidLine bytes) e)
     where
       go : (o : Outcome) → brief o ≡ went last (drop place bytes) → next last (drop place bytes) ≡ answerThen o (λ ns rest. next (only ns) rest)
@@ -114,7 +114,7 @@ module _ (bytes : List ℕ) (at n : ℕ) {wanted line : layout.Line} (same : wan
 
 -- after the `end` line: something, or nothing
 module _ (bytes : List ℕ) (at v d c : ℕ) (cs : List ℕ) (r : Line)
-  (says : saidLine bytes r ≡ brief (lineAt (v + 6) (lineWanted (endLine narrow v .word) (endWanted (v + 6) v)) (drop at bytes))) where
+    (says : saidLine bytes r ≡ brief (lineAt (v + 6) (lineWanted (endLine narrow v .word) (endWanted (v + 6) v)) (drop at bytes))) where
   pub end-some : {last place : ℕ} → r ≡ Found last place → place < length bytes → refused 13 (v + 7) ≡ fromEnd narrow v d c cs (drop at bytes)
   unfolding fromEnd
   end-some {last} {place} e h =
@@ -142,7 +142,7 @@ module _ (bytes : List ℕ) (at n : ℕ) {wanted line : layout.Line} (same : wan
       go (found ns rest) f = absurd (let z : _≡_ {A = ℕ} 0 1 = cc in omega arith)
 
   lines-found : (more : ℕ) {last place : ℕ} → r ≡ Found last place
-    → bare (linesAt (n + 1) more line (drop place bytes)) ≡ bare (linesAt n (suc more) line (drop at bytes))
+      → bare (linesAt (n + 1) more line (drop place bytes)) ≡ bare (linesAt n (suc more) line (drop at bytes))
   unfolding linesAt
   lines-found more {last} {place} e =
       ap (λ (m : ℕ). bare (linesAt m more line (drop place bytes))) (add-one n)
@@ -156,7 +156,7 @@ module _ (bytes : List ℕ) (at n : ℕ) {wanted line : layout.Line} (same : wan
 
 -- round j + 1 of so many, on line j + 6
 module _ (bytes : List ℕ) (at vars degree j : ℕ) (h : j < vars) (r : Line)
-  (says : saidLine bytes r ≡ brief (lineAt (j + 6) (lineWanted (roundLine narrow degree .word) (roundWanted (j + 6) degree)) (drop at bytes))) where
+    (says : saidLine bytes r ≡ brief (lineAt (j + 6) (lineWanted (roundLine narrow degree .word) (roundWanted (j + 6) degree)) (drop at bytes))) where
   left : vars - j ≡ suc (vars - (j + 1))
   left = omega arith
 
@@ -164,7 +164,7 @@ module _ (bytes : List ℕ) (at vars degree j : ℕ) (h : j < vars) (r : Line)
   round-refused e = rw left (lines-refused bytes at (j + 6) (round-line (j + 6) degree) r says (vars - (j + 1)) e)
 
   pub round-found : {last place : ℕ} → r ≡ Found last place
-    → bare (linesAt (j + 1 + 6) (vars - (j + 1)) (roundLine narrow degree) (drop place bytes)) ≡ bare (linesAt (j + 6) (vars - j) (roundLine narrow degree) (drop at bytes))
+      → bare (linesAt (j + 1 + 6) (vars - (j + 1)) (roundLine narrow degree) (drop place bytes)) ≡ bare (linesAt (j + 6) (vars - j) (roundLine narrow degree) (drop at bytes))
   round-found {last} {place} e =
       let f : j + 1 + 6 ≡ j + 6 + 1 = omega arith in
       ap (λ (n : ℕ). bare (linesAt n (vars - (j + 1)) (roundLine narrow degree) (drop place bytes))) f

@@ -33,7 +33,7 @@ over-value v (b ∷ ds) =
     let y = b - 48 in
     let f : v % 2 ^ 32 * 10 + y + v / 2 ^ 32 * 10 * 2 ^ 32 ≡ v * 10 + y = omega (arith, div-add-mod' v (2 ^ 32)) in
     let e : (v % 2 ^ 32 * 10 + y) % 2 ^ 32 ≡ (v * 10 + y) % 2 ^ 32 =
-      sym (add-mul-mod-self-right (v % 2 ^ 32 * 10 + y) (v / 2 ^ 32 * 10) (2 ^ 32)) ∙ ap (λ (n : ℕ). n % 2 ^ 32) f in
+    sym (add-mul-mod-self-right (v % 2 ^ 32 * 10 + y) (v / 2 ^ 32 * 10) (2 ^ 32)) ∙ ap (λ (n : ℕ). n % 2 ^ 32) f in
     ap (λ (n : ℕ). over n ds) e ∙ over-value (v * 10 + (b - 48)) ds
 
 -- the values carried over parts, the first after digits of the value v
@@ -49,7 +49,7 @@ overs-zero ps s = rw (s .2)
 
 -- the first byte of a part is a digit
 first-digit : (b : ℕ) (ps : List (List ℕ)) → ((p : List ℕ) × (more : List (List ℕ)) × (ps ≡ p ∷ more)) → all (all isDigit) (widen b ps) ≡ true
-  → (isDigit b ≡ true) × (all (all isDigit) ps ≡ true)
+    → (isDigit b ≡ true) × (all (all isDigit) ps ≡ true)
 first-digit b ps s h =
     let p = s .0 in
     let h′ : ((isDigit b && all isDigit p) && all (all isDigit) (s .1)) ≡ true = rw (s .2) at h in
@@ -63,8 +63,8 @@ collect-parts (b ∷ text) v rest h =
     go (eqb b 44) refl h (parts-some text) (λ w g. collect-parts text w rest g)
   where
     go : (t : Bool) → eqb b 44 ≡ t → all (all isDigit) (parts (b ∷ text)) ≡ true → ((p : List ℕ) × (more : List (List ℕ)) × (parts text ≡ p ∷ more))
-      → ((w : ℕ) → all (all isDigit) (parts text) ≡ true → collect w (text ++ 10 ∷ rest) ≡ overs w (parts text) ++ collect 0 rest)
-      → collect v (b ∷ text ++ 10 ∷ rest) ≡ overs v (parts (b ∷ text)) ++ collect 0 rest
+        → ((w : ℕ) → all (all isDigit) (parts text) ≡ true → collect w (text ++ 10 ∷ rest) ≡ overs w (parts text) ++ collect 0 rest)
+        → collect v (b ∷ text ++ 10 ∷ rest) ≡ overs v (parts (b ∷ text)) ++ collect 0 rest
     go true e g s ih =
         let z = eqb-true b 44 e in
         let g′ : all (all isDigit) (parts text) ≡ true = rw e at g in
@@ -92,25 +92,26 @@ overs-values n (p ∷ ps) l h =
 
 -- one round that is found
 round-collected : (n degree : ℕ) (s ns rest : List ℕ) → lineAt n (roundLine narrow degree) s ≡ found ns rest
-  → (collect 0 s ≡ ns ++ collect 0 rest) × (length ns ≡ degree + 1)
+    → (collect 0 s ≡ ns ++ collect 0 rest) × (length ns ≡ degree + 1)
 round-collected n degree s ns rest e =
     let g = found-good n (roundLine narrow degree) s ns rest e in
     let t = g .text in
     let digits = numbers-digits 10 (parts t) (g .parted .each) in
-    let small : all (λ m. ltb m 2147483647) (map value (parts t)) ≡ true = rw (g .parted .values) at (g .allowed) in
-    (ap (collect 0) (g .bytes)
-      ∙ (word t rest
-      ∙ (collect-parts t 0 rest digits
-      ∙ ap (λ (ms : List ℕ). ms ++ collect 0 rest)
-        (overs-zero (parts t) (parts-some t) ∙ (overs-values 2147483647 (parts t) (omega arith) small ∙ sym (g .parted .values))))),
-      ap length (g .parted .values) ∙ (length-map (parts t) value ∙ g .parted .asMany))
+    let small : all (λ m. ltb m 2147483647) (map value (parts t)) ≡ true = rw (g .parted .values) at (g .allowed) in (
+      ap (collect 0) (g .bytes)
+          ∙ (word t rest
+          ∙ (collect-parts t 0 rest digits
+          ∙ ap (λ (ms : List ℕ). ms ++ collect 0 rest)
+          (overs-zero (parts t) (parts-some t) ∙ (overs-values 2147483647 (parts t) (omega arith) small ∙ sym (g .parted .values))))),
+      ap length (g .parted .values) ∙ (length-map (parts t) value ∙ g .parted .asMany),
+    )
   where
     word : (t rest : List ℕ) → collect 0 (((114 ∷ 111 ∷ 117 ∷ 110 ∷ 100 ∷ []) ++ 61 ∷ []) ++ t ++ 10 ∷ rest) ≡ collect 0 (t ++ 10 ∷ rest)
     word t rest = unfold classOf in refl
 
 -- all rounds
 pub lines-collected : (m n degree : ℕ) (s cs rest : List ℕ) → linesAt n m (roundLine narrow degree) s ≡ found cs rest
-  → (collect 0 s ≡ cs ++ collect 0 rest) × (length cs ≡ m * (degree + 1))
+    → (collect 0 s ≡ cs ++ collect 0 rest) × (length cs ≡ m * (degree + 1))
 unfolding linesAt
 lines-collected zero n degree s cs rest e =
     let p : [] ≡ cs = cc in
@@ -120,20 +121,22 @@ lines-collected (suc m) n degree s cs rest e =
     first (lineAt n (roundLine narrow degree) s) refl e (λ s′ cs′. lines-collected m (suc n) degree s′ cs′ rest)
   where
     later : (ns s′ : List ℕ) (o : Outcome) → linesAt (suc n) m (roundLine narrow degree) s′ ≡ o → before ns o ≡ found cs rest
-      → (collect 0 s ≡ ns ++ collect 0 s′) × (length ns ≡ degree + 1)
-      → ((cs′ : List ℕ) → linesAt (suc n) m (roundLine narrow degree) s′ ≡ found cs′ rest → (collect 0 s′ ≡ cs′ ++ collect 0 rest) × (length cs′ ≡ m * (degree + 1)))
-      → (collect 0 s ≡ cs ++ collect 0 rest) × (length cs ≡ suc m * (degree + 1))
+        → (collect 0 s ≡ ns ++ collect 0 s′) × (length ns ≡ degree + 1)
+        → ((cs′ : List ℕ) → linesAt (suc n) m (roundLine narrow degree) s′ ≡ found cs′ rest → (collect 0 s′ ≡ cs′ ++ collect 0 rest) × (length cs′ ≡ m * (degree + 1)))
+        → (collect 0 s ≡ cs ++ collect 0 rest) × (length cs ≡ suc m * (degree + 1))
     later ns s′ (fault a b) f g h ih = absurd (let z : _≡_ {A = ℕ} 0 1 = cc in omega arith)
     later ns s′ (found ms r) f g h ih =
         let p : ns ++ ms ≡ cs = cc in
         let q : r ≡ rest = cc in
-        let i = ih ms (f ∙ ap (λ (x : List ℕ). found ms x) q) in
-        (h .0
-          ∙ (ap (λ (x : List ℕ). ns ++ x) (i .0)
-          ∙ (sym (append-assoc ns ms (collect 0 rest)) ∙ ap (λ (x : List ℕ). x ++ collect 0 rest) p)),
-          sym (ap length p) ∙ (length-append ns ms ∙ omega (arith, h .1, i .1)))
+        let i = ih ms (f ∙ ap (λ (x : List ℕ). found ms x) q) in (
+          h .0
+              ∙ (ap (λ (x : List ℕ). ns ++ x) (i .0)
+              ∙ (sym (append-assoc ns ms (collect 0 rest)) ∙ ap (λ (x : List ℕ). x ++ collect 0 rest) p)),
+          sym (ap length p) ∙ (length-append ns ms ∙ omega (arith, h .1, i .1)),
+        )
+
     first : (o : Outcome) → lineAt n (roundLine narrow degree) s ≡ o → andThen o (λ s′. linesAt (suc n) m (roundLine narrow degree) s′) ≡ found cs rest
-      → ((s′ cs′ : List ℕ) → linesAt (suc n) m (roundLine narrow degree) s′ ≡ found cs′ rest → (collect 0 s′ ≡ cs′ ++ collect 0 rest) × (length cs′ ≡ m * (degree + 1)))
-      → (collect 0 s ≡ cs ++ collect 0 rest) × (length cs ≡ suc m * (degree + 1))
+        → ((s′ cs′ : List ℕ) → linesAt (suc n) m (roundLine narrow degree) s′ ≡ found cs′ rest → (collect 0 s′ ≡ cs′ ++ collect 0 rest) × (length cs′ ≡ m * (degree + 1)))
+        → (collect 0 s ≡ cs ++ collect 0 rest) × (length cs ≡ suc m * (degree + 1))
     first (fault a b) f g ih = absurd (let z : _≡_ {A = ℕ} 0 1 = cc in omega arith)
     first (found ns s′) f g ih = later ns s′ (linesAt (suc n) m (roundLine narrow degree) s′) refl g (round-collected n degree s ns s′ f) (ih s′)

@@ -6,6 +6,7 @@
 --   Collect   the numbers of the second pass are those of the first
 --   Rounds    the answer from the rounds on
 --   Pour      the second pass from some place on
+--   Replies   the reply, from what the first pass tells
 pub mod Paths
 pub mod Machine
 pub mod Runs
@@ -13,3 +14,4 @@ pub mod Chain
 pub mod Collect
 pub mod Rounds
 pub mod Pour
+pub mod Replies

@@ -63,7 +63,7 @@ module _ (w : Wanted) (word : List ℕ) where
   ran state (b ∷ s) = go (eqb b 10) refl (ran (stepOf w word b state) s)
     where
       go : (t : Bool) → eqb b 10 ≡ t → runOf w word (stepOf w word b state) s ≡ onCut (stepOf w word b state) (firstLine s)
-        → runOf w word state (b ∷ s) ≡ onCut state (firstLine (b ∷ s))
+          → runOf w word state (b ∷ s) ≡ onCut state (firstLine (b ∷ s))
       go true e ih = rw e
       go false e ih = rw e (ih ∙ on-longer state b (firstLine s))
 
@@ -96,7 +96,7 @@ module _ (w : Wanted) (word : List ℕ) where
 
   -- a number and a comma before other parts
   verdict-cons : (k : ℕ) (a : Bool) (rest q p : List ℕ) (ps : List (List ℕ)) → isNumber (w .digits) q ≡ true → (k ≡ 0 → ⊥)
-    → verdict (k - 1) (a && between (w .low) (w .high) (value q)) rest (p ∷ ps) ≡ verdict k a rest (q ∷ p ∷ ps)
+      → verdict (k - 1) (a && between (w .low) (w .high) (value q)) rest (p ∷ ps) ≡ verdict k a rest (q ∷ p ∷ ps)
   unfolding verdict
   verdict-cons k a rest q p ps n z =
       let e : eqb (length (q ∷ p ∷ ps)) (k + 1) ≡ eqb (length (p ∷ ps)) (k - 1 + 1) = same-test (length (p ∷ ps)) k z in
@@ -150,7 +150,7 @@ module _ (w : Wanted) (word : List ℕ) where
           between-high (w .low) (w .high) v (omega arith) ∙ sym (between-high (w .low) (w .high) x g)
 
   verdict-last : (k : ℕ) (a : Bool) (rest q : List ℕ) → isNumber (w .digits) q ≡ true → k ≡ 0
-    → verdict k a rest (q ∷ []) ≡ choose (a && between (w .low) (w .high) (value q)) (went (value q) rest) (stopped 12 (w .line))
+      → verdict k a rest (q ∷ []) ≡ choose (a && between (w .low) (w .high) (value q)) (went (value q) rest) (stopped 12 (w .line))
   unfolding verdict
   verdict-last k a rest q n z = rw (z, n, and-true (between (w .low) (w .high) (value q)))
 
@@ -168,11 +168,13 @@ module _ (w : Wanted) (word : List ℕ) where
     where
       test : stillOf w (num d v k a) ≡ (a && between (w .low) (w .high) (value ds))
       test = still-value d v k a ds pre h
+
       last : (d ≡ 0 → ⊥) → k ≡ 0 → verdict k a rest ((ds ++ []) ∷ []) ≡ choose (stillOf w (num d v k a)) (went (value ds) rest) (stopped 12 (w .line))
       last z y =
           ap (λ (q : List ℕ). verdict k a rest (q ∷ [])) (append-nil ds)
           ∙ (verdict-last k a rest ds (prefix-number pre z l) y
           ∙ ap (λ (t : Bool). choose t (went (value ds) rest) (stopped 12 (w .line))) (sym test))
+
       room : (t : Bool) → stillOf w (num d v k a) ≡ t → (d ≡ 0 → ⊥) → k ≡ 0 → closedNumber w (num d v k a) rest ≡ verdict k a rest ((ds ++ []) ∷ [])
       room true e z y =
           let g = between-holds (w .low) (w .high) (value ds) (both a (between (w .low) (w .high) (value ds)) (sym test ∙ e) .1) in
@@ -180,11 +182,13 @@ module _ (w : Wanted) (word : List ℕ) where
           sym (closed-found w (num d v k a) rest z y e)
           ∙ (ap (λ (n : ℕ). went n rest) u ∙ sym (last z y ∙ rw e))
       room false e z y = sym (closed-refused w (num d v k a) rest z y e) ∙ sym (last z y ∙ rw e)
+
       commas : (t : Bool) → eqb k 0 ≡ t → (d ≡ 0 → ⊥) → closedNumber w (num d v k a) rest ≡ verdict k a rest ((ds ++ []) ∷ [])
       commas true e z = room (stillOf w (num d v k a)) refl z (eqb-true k 0 e)
       commas false e z =
           let y = eqb-false k 0 e in
           sym (closed-early w (num d v k a) rest z y) ∙ sym (verdict-many k a rest ((ds ++ []) ∷ []) (λ o. y (omega arith)))
+
       empty : (t : Bool) → eqb d 0 ≡ t → closedNumber w (num d v k a) rest ≡ verdict k a rest ((ds ++ []) ∷ [])
       empty true e =
           let z = eqb-true d 0 e in
@@ -192,7 +196,7 @@ module _ (w : Wanted) (word : List ℕ) where
       empty false e = commas (eqb k 0) refl (eqb-false d 0 e)
 
   numbers-comma : (d v k : ℕ) (a : Bool) (ds rest : List ℕ) (b : ℕ) (text : List ℕ) → Prefix d v ds → length ds ≤ w .digits → w .high < cap
-    → b ≡ 44 → classOf b ≡ bytes.comma → ((j : ℕ) (t : Bool) → Law 0 0 j t [] rest text) → Law d v k a ds rest (b ∷ text)
+      → b ≡ 44 → classOf b ≡ bytes.comma → ((j : ℕ) (t : Bool) → Law 0 0 j t [] rest text) → Law d v k a ds rest (b ∷ text)
   unfolding Law
   numbers-comma d v k a ds rest b text pre l h e c ih =
       ap (λ (m : bytes.Class). closedOf w (stepsOf (inNumbers w (num d v k a) b m) text) rest) c
@@ -201,8 +205,9 @@ module _ (w : Wanted) (word : List ℕ) where
       goal : verdict k a rest (onFirst ds (parts (b ∷ text))) ≡ verdict k a rest (ds ∷ parts text)
       goal = ap (λ (t : Bool). verdict k a rest (onFirst ds (choose t ([] ∷ parts text) (widen b (parts text))))) (eq-eqb b 44 e)
           ∙ ap (λ (q : List ℕ). verdict k a rest (q ∷ parts text)) (append-nil ds)
+
       commas : (t : Bool) → eqb k 0 ≡ t → (d ≡ 0 → ⊥) → ((p : List ℕ) × (ps : List (List ℕ)) × (parts text ≡ p ∷ ps))
-        → closedOf w (stepsOf (withComma w (num d v k a)) text) rest ≡ verdict k a rest (ds ∷ parts text)
+          → closedOf w (stepsOf (withComma w (num d v k a)) text) rest ≡ verdict k a rest (ds ∷ parts text)
       commas true f z s =
           let y = eqb-true k 0 f in
           closed-bad _ text rest (comma-last w (num d v k a) z y)
@@ -214,8 +219,9 @@ module _ (w : Wanted) (word : List ℕ) where
           ∙ (ap₂ (λ (t : Bool) (qs : List (List ℕ)). verdict (k - 1) t rest (onFirst [] qs)) (still-value d v k a ds pre h) (s .2)
           ∙ (verdict-cons k a rest ds (s .0) (s .1) (prefix-number pre z l) (eqb-false k 0 f)
           ∙ ap (λ (qs : List (List ℕ)). verdict k a rest (ds ∷ qs)) (sym (s .2)))))
+
       empty : (t : Bool) → eqb d 0 ≡ t → ((p : List ℕ) × (ps : List (List ℕ)) × (parts text ≡ p ∷ ps))
-        → closedOf w (stepsOf (withComma w (num d v k a)) text) rest ≡ verdict k a rest (ds ∷ parts text)
+          → closedOf w (stepsOf (withComma w (num d v k a)) text) rest ≡ verdict k a rest (ds ∷ parts text)
       empty true f s =
           let z = eqb-true d 0 f in
           closed-bad _ text rest (comma-empty w (num d v k a) z) ∙ sym (verdict-no k a rest ds (parts text) (rw (prefix-empty pre z)))
@@ -241,8 +247,8 @@ module _ (w : Wanted) (word : List ℕ) where
       (unfold moreOf in rw (valueFrom-append 0 ds b) (omega arith))
 
   numbers-digit : (d v k : ℕ) (a : Bool) (ds rest : List ℕ) (b : ℕ) (text : List ℕ) → Prefix d v ds → length ds ≤ w .digits
-    → 48 ≤ b → b ≤ 57 → classOf b ≡ bytes.digit
-    → ((d v : ℕ) (ds : List ℕ) → Prefix d v ds → length ds ≤ w .digits → Law d v k a ds rest text) → Law d v k a ds rest (b ∷ text)
+      → 48 ≤ b → b ≤ 57 → classOf b ≡ bytes.digit
+      → ((d v : ℕ) (ds : List ℕ) → Prefix d v ds → length ds ≤ w .digits → Law d v k a ds rest text) → Law d v k a ds rest (b ∷ text)
   unfolding Law
   numbers-digit d v k a ds rest b text pre l p q c ih =
       ap (λ (m : bytes.Class). closedOf w (stepsOf (inNumbers w (num d v k a) b m) text) rest) c
@@ -251,13 +257,15 @@ module _ (w : Wanted) (word : List ℕ) where
       goal : verdict k a rest (onFirst ds (parts (b ∷ text))) ≡ verdict k a rest (onFirst (ds ++ b ∷ []) (parts text))
       goal = ap (λ (t : Bool). verdict k a rest (onFirst ds (choose t ([] ∷ parts text) (widen b (parts text))))) (ne-eqb b 44 (λ e. omega arith))
           ∙ ap (verdict k a rest) (sym (on-widen ds b (parts text)))
+
       some : {state : State} → Bad ≡ state → (x : List ℕ) (xs : List (List ℕ)) → parts text ≡ x ∷ xs → isNumber (w .digits) ((ds ++ b ∷ []) ++ x) ≡ false
-        → closedOf w (stepsOf state text) rest ≡ verdict k a rest (onFirst (ds ++ b ∷ []) (parts text))
+          → closedOf w (stepsOf state text) rest ≡ verdict k a rest (onFirst (ds ++ b ∷ []) (parts text))
       some {state} e x xs s n =
           closed-bad state text rest e
           ∙ sym (ap (λ (qs : List (List ℕ)). verdict k a rest (onFirst (ds ++ b ∷ []) qs)) s ∙ verdict-no k a rest ((ds ++ b ∷ []) ++ x) xs n)
+
       step : Prefix d v ds → d < w .digits → ((x : List ℕ) × (xs : List (List ℕ)) × (parts text ≡ x ∷ xs))
-        → closedOf w (stepsOf (withDigit w (num d v k a) b) text) rest ≡ verdict k a rest (onFirst (ds ++ b ∷ []) (parts text))
+          → closedOf w (stepsOf (withDigit w (num d v k a) b) text) rest ≡ verdict k a rest (onFirst (ds ++ b ∷ []) (parts text))
       step (none e f g) m s =
           ap (λ (x : State). closedOf w (stepsOf x text) rest) (sym (digit-first w (num d v k a) b (moreOf 0 b) m e refl))
           ∙ (ih 1 (moreOf 0 b) (b ∷ []) (prefix-first b p q) (omega arith)
@@ -269,14 +277,15 @@ module _ (w : Wanted) (word : List ℕ) where
           let u : v ≡ 0 → ⊥ = λ y. omega arith in
           ap (λ (x : State). closedOf w (stepsOf x text) rest) (sym (digit-later w (num d v k a) b (moreOf v b) m z u refl))
           ∙ ih (d + 1) (moreOf v b) (ds ++ b ∷ []) (prefix-later b p q z u pre) (omega (arith, length-append ds (b ∷ [])))
+
       full : (t : Bool) → leb (w .digits) d ≡ t → ((x : List ℕ) × (xs : List (List ℕ)) × (parts text ≡ x ∷ xs))
-        → closedOf w (stepsOf (withDigit w (num d v k a) b) text) rest ≡ verdict k a rest (onFirst (ds ++ b ∷ []) (parts text))
+          → closedOf w (stepsOf (withDigit w (num d v k a) b) text) rest ≡ verdict k a rest (onFirst (ds ++ b ∷ []) (parts text))
       full true e s = some (digit-full w (num d v k a) b (leb-true (w .digits) d e)) (s .0) (s .1) (s .2) (number-long (w .digits) ((ds ++ b ∷ []) ++ s .0)
           (omega (arith, length-append (ds ++ b ∷ []) (s .0), length-append ds (b ∷ []), prefix-count pre, leb-true (w .digits) d e)))
       full false e s = step pre (leb-false (w .digits) d e) s
 
   numbers-other : (d v k : ℕ) (a : Bool) (ds rest : List ℕ) (b : ℕ) (text : List ℕ) → isDigit b ≡ false → (b ≡ 44 → ⊥)
-    → Bad ≡ inNumbers w (num d v k a) b (classOf b) → Law d v k a ds rest (b ∷ text)
+      → Bad ≡ inNumbers w (num d v k a) b (classOf b) → Law d v k a ds rest (b ∷ text)
   unfolding Law
   numbers-other d v k a ds rest b text i c e = closed-bad _ text rest e ∙ sym (go (parts-some text))
     where
@@ -287,7 +296,7 @@ module _ (w : Wanted) (word : List ℕ) where
           (number-digits (w .digits) (ds ++ b ∷ s .0) (all-append isDigit ds (b ∷ s .0) ∙ and-right (all isDigit ds) _ (rw i))))
 
   numbers-law : (text : List ℕ) (d v k : ℕ) (a : Bool) (ds rest : List ℕ) → Prefix d v ds → length ds ≤ w .digits → w .high < cap
-    → Law d v k a ds rest text
+      → Law d v k a ds rest text
   numbers-law [] d v k a ds rest pre l h = numbers-end d v k a ds rest pre l h
   numbers-law (b ∷ text) d v k a ds rest pre l h =
       go (classOf b) refl (means b)
@@ -295,7 +304,7 @@ module _ (w : Wanted) (word : List ℕ) where
       (λ e u es p m. numbers-law text e u k a es rest p m h)
     where
       go : (c : bytes.Class) → classOf b ≡ c → Means (classOf b) b → ((j : ℕ) (t : Bool) → Law 0 0 j t [] rest text)
-        → ((d v : ℕ) (ds : List ℕ) → Prefix d v ds → length ds ≤ w .digits → Law d v k a ds rest text) → Law d v k a ds rest (b ∷ text)
+          → ((d v : ℕ) (ds : List ℕ) → Prefix d v ds → length ds ≤ w .digits → Law d v k a ds rest text) → Law d v k a ds rest (b ∷ text)
       go bytes.digit e m f g = let r = rw e at m in numbers-digit d v k a ds rest b text pre l (r .0) (r .1) e g
       go bytes.comma e m f g = numbers-comma d v k a ds rest b text pre l h (rw e at m) e f
       go bytes.equals e m f g =
@@ -318,11 +327,12 @@ module _ (w : Wanted) (word : List ℕ) where
   verdict-form text rest = go (eqb (length (parts text)) (w .commas + 1) && all (isNumber (w .digits)) (parts text)) refl
     where
       allowed : (t : Bool) → all (between (w .low) (w .high)) (map value (parts text)) ≡ t
-        → choose t (went (only (map value (parts text))) rest) (stopped 12 (w .line)) ≡ brief (choose t (found (map value (parts text)) rest) (fault 12 (w .line)))
+          → choose t (went (only (map value (parts text))) rest) (stopped 12 (w .line)) ≡ brief (choose t (found (map value (parts text)) rest) (fault 12 (w .line)))
       allowed true e = refl
       allowed false e = refl
+
       go : (t : Bool) → (eqb (length (parts text)) (w .commas + 1) && all (isNumber (w .digits)) (parts text)) ≡ t
-        → verdict (w .commas) true rest (parts text) ≡ brief (judged (w .line) (lineWanted word w) rest (numbersOf (lineWanted word w) text))
+          → verdict (w .commas) true rest (parts text) ≡ brief (judged (w .line) (lineWanted word w) rest (numbersOf (lineWanted word w) text))
       go true e = rw e (allowed (all (between (w .low) (w .high)) (map value (parts text))) refl)
       go false e = rw e
 
@@ -343,6 +353,7 @@ module _ (w : Wanted) (word : List ℕ) where
     where
       bad : Bad ≡ inWord w word (length pre) c (classOf c) → (c ≡ 61 → ⊥) → Reads pre [] rest (c ∷ text)
       bad b z = closed-bad _ text rest b ∙ rw (ne-eqb c 61 z)
+
       go : (k : bytes.Class) → classOf c ≡ k → Means (classOf c) c → Reads pre [] rest (c ∷ text)
       go bytes.equals f m =
           let r = rw f at m in
@@ -359,16 +370,19 @@ module _ (w : Wanted) (word : List ℕ) where
       go bytes.other f m = let r = rw f at m in bad (rw f) (r .2)
 
   reads-letter : (pre ks rest : List ℕ) (k c : ℕ) (text : List ℕ) → word ≡ pre ++ k ∷ ks → isLetter k ≡ true
-    → Reads (pre ++ k ∷ []) ks rest text → Reads pre (k ∷ ks) rest (c ∷ text)
+      → Reads (pre ++ k ∷ []) ks rest text → Reads pre (k ∷ ks) rest (c ∷ text)
   unfolding Reads
   reads-letter pre ks rest k c text e l ih = same (eqb c k) refl
     where
       place : length pre < length word
       place = omega (arith, ap length e, length-append pre (k ∷ ks))
+
       at : getD word (length pre) 0 ≡ k
       at = ap (λ (xs : List ℕ). getD xs (length pre) 0) e ∙ getD-append-seam pre k ks 0
+
       bad : Bad ≡ inWord w word (length pre) c (classOf c) → eqb c k ≡ false → Reads pre (k ∷ ks) rest (c ∷ text)
       bad b z = closed-bad _ text rest b ∙ rw z
+
       other : (x : bytes.Class) → classOf c ≡ x → eqb c k ≡ false → Reads pre (k ∷ ks) rest (c ∷ text)
       other bytes.letter f z = bad (rw f (letter-wrong word (length pre) c place (λ y. eqb-false c k z (y ∙ at)))) z
       other bytes.equals f z = bad (rw f (open-wrong w word (length pre) (λ y. omega (arith, place)))) z
@@ -376,6 +390,7 @@ module _ (w : Wanted) (word : List ℕ) where
       other bytes.comma f z = bad (rw f) z
       other bytes.lineEnd f z = bad (rw f) z
       other bytes.other f z = bad (rw f) z
+
       same : (t : Bool) → eqb c k ≡ t → Reads pre (k ∷ ks) rest (c ∷ text)
       same true z =
           let y = eqb-true c k z in
@@ -396,7 +411,7 @@ module _ (w : Wanted) (word : List ℕ) where
 
   -- the machine's run over bytes of which there are some comes to what the layout says of them
   pub run-line : (b : ℕ) (s : List ℕ) → all isLetter word ≡ true → w .high < cap
-    → runOf w word (Word 0) (b ∷ s) ≡ brief (lineAt (w .line) (lineWanted word w) (b ∷ s))
+      → runOf w word (Word 0) (b ∷ s) ≡ brief (lineAt (w .line) (lineWanted word w) (b ∷ s))
   unfolding lineAt
   run-line b s l h = ran (Word 0) (b ∷ s) ∙ go (firstLine (b ∷ s)) (some-cut (eqb b 10) (firstLine s))
     where
@@ -404,10 +419,12 @@ module _ (w : Wanted) (word : List ℕ) where
       Some (ended text rest) = Unit {0}
       Some (unended []) = ⊥
       Some (unended (c ∷ text)) = Unit {0}
+
       some-cut : (t : Bool) (cut : Cut) → Some (choose t (ended [] s) (longer b cut))
       some-cut true cut = tt
       some-cut false (ended text rest) = tt
       some-cut false (unended text) = tt
+
       go : (cut : Cut) → Some cut → onCut (Word 0) cut ≡ brief (outcome (w .line) (lineWanted word w) cut)
       go (ended text rest) y = unfold Reads form in word-law text [] word rest refl l h
       go (unended []) y = absurd y

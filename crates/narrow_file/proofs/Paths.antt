@@ -30,7 +30,7 @@ module _ (w : Wanted) (n : Number) where
   digit-full b h = rw (le-leb (w .digits) (n .digits) h)
 
   pub digit-first : (b v : ℕ) → n .digits < w .digits → n .digits ≡ 0 → v ≡ moreOf 0 b
-    → Numbers (record { digits = 1; value = v; commas = n .commas; allowed = n .allowed }) ≡ withDigit w n b
+      → Numbers (record { digits = 1; value = v; commas = n .commas; allowed = n .allowed }) ≡ withDigit w n b
   unfolding withDigit
   digit-first b v h z e = rw (lt-leb (w .digits) (n .digits) h, eq-eqb (n .digits) 0 z, e)
 
@@ -39,7 +39,7 @@ module _ (w : Wanted) (n : Number) where
   digit-after-zero b h z e = rw (lt-leb (w .digits) (n .digits) h, ne-eqb (n .digits) 0 z, eq-eqb (n .value) 0 e)
 
   pub digit-later : (b v : ℕ) → n .digits < w .digits → (n .digits ≡ 0 → ⊥) → (n .value ≡ 0 → ⊥) → v ≡ moreOf (n .value) b
-    → Numbers (record { digits = n .digits + 1; value = v; commas = n .commas; allowed = n .allowed }) ≡ withDigit w n b
+      → Numbers (record { digits = n .digits + 1; value = v; commas = n .commas; allowed = n .allowed }) ≡ withDigit w n b
   unfolding withDigit
   digit-later b v h z y e = rw (lt-leb (w .digits) (n .digits) h, ne-eqb (n .digits) 0 z, ne-eqb (n .value) 0 y, e)
 
@@ -52,7 +52,7 @@ module _ (w : Wanted) (n : Number) where
   comma-last z e = rw (ne-eqb (n .digits) 0 z, eq-eqb (n .commas) 0 e)
 
   pub comma-next : (t : Bool) → (n .digits ≡ 0 → ⊥) → (n .commas ≡ 0 → ⊥) → t ≡ stillOf w n
-    → Numbers (record { digits = 0; value = 0; commas = n .commas - 1; allowed = t }) ≡ withComma w n
+      → Numbers (record { digits = 0; value = 0; commas = n .commas - 1; allowed = t }) ≡ withComma w n
   unfolding withComma
   comma-next t z y e = rw (ne-eqb (n .digits) 0 z, ne-eqb (n .commas) 0 y, e)
 
@@ -85,7 +85,7 @@ unfolding withLetter
 letter-wrong word letters b h e = rw (lt-leb (length word) letters h, ne-eqb b (getD word letters 0) e)
 
 pub open-right : (w : Wanted) (word : List ℕ) (letters : ℕ) → letters ≡ length word
-  → Numbers (record { digits = 0; value = 0; commas = w .commas; allowed = true }) ≡ opened w word letters
+    → Numbers (record { digits = 0; value = 0; commas = w .commas; allowed = true }) ≡ opened w word letters
 unfolding opened
 open-right w word letters e = rw (eq-eqb letters (length word) e)
 

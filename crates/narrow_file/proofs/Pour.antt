@@ -34,24 +34,24 @@ module _ (places filled value : ℕ) (list : List ℕ) where
 
   module _ (xs : List ℕ) (i : ℕ) (h : i < length xs) where
     pub pour-carry : (v : ℕ) → stores (classOf (getD xs i 0)) ≡ false → v ≡ carried value (getD xs i 0) (classOf (getD xs i 0))
-      → pour places filled v (drop (i + 1) xs) list ≡ pour places filled value (drop i xs) list
+        → pour places filled v (drop (i + 1) xs) list ≡ pour places filled value (drop i xs) list
     unfolding pour
     pour-carry v e f = rw (drop-here xs i h, e, f)
 
     pub pour-store : filled < places → filled < length list → stores (classOf (getD xs i 0)) ≡ true
-      → pour places (filled + 1) 0 (drop (i + 1) xs) (set list filled value) ≡ pour places filled value (drop i xs) list
+        → pour places (filled + 1) 0 (drop (i + 1) xs) (set list filled value) ≡ pour places filled value (drop i xs) list
     unfolding pour
     pour-store p l e =
         let vs = take (places - (filled + 1)) (collect 0 (drop (i + 1) xs)) in
         let n : places - filled ≡ suc (places - (filled + 1)) = omega arith in
         let k : suc filled + length vs ≡ filled + suc (length vs) = omega arith in
         let front : take (filled + 1) (set list filled value) ≡ take filled list ++ value ∷ [] =
-          ap (λ (m : ℕ). take m (set list filled value)) (add-one filled) ∙ take-suc-set list filled value l in
+        ap (λ (m : ℕ). take m (set list filled value)) (add-one filled) ∙ take-suc-set list filled value l in
         let back : drop (length vs) (drop (filled + 1) (set list filled value)) ≡ drop (suc (length vs)) (drop filled list) =
-          ap (λ (m : ℕ). drop (length vs) (drop m (set list filled value))) (add-one filled)
-          ∙ (ap (drop (length vs)) (drop-set-lt (suc filled) list filled value (omega arith))
-          ∙ (drop-drop (length vs) (suc filled) list
-          ∙ (ap (λ (m : ℕ). drop m list) k ∙ sym (drop-drop (suc (length vs)) filled list)))) in
+        ap (λ (m : ℕ). drop (length vs) (drop m (set list filled value))) (add-one filled)
+        ∙ (ap (drop (length vs)) (drop-set-lt (suc filled) list filled value (omega arith))
+        ∙ (drop-drop (length vs) (suc filled) list
+        ∙ (ap (λ (m : ℕ). drop m list) k ∙ sym (drop-drop (suc (length vs)) filled list)))) in
         ap₂ (λ (a b : List ℕ). a ++ (vs ++ b)) front back
         ∙ (append-assoc (take filled list) (value ∷ []) (vs ++ drop (suc (length vs)) (drop filled list))
         ∙ sym (rw (drop-here xs i h, e, n)))

@@ -23,7 +23,7 @@ drop-here xs i h = drop-cons xs i 0 h ∙ ap (λ (j : ℕ). getD xs i 0 ∷ drop
 
 module _ (w : Wanted) (word xs : List ℕ) (state : State) (i : ℕ) where
   pub run-more : (next : State) → i < length xs → eqb (getD xs i 0) 10 ≡ false → next ≡ stepOf w word (getD xs i 0) state
-    → runOf w word next (drop (i + 1) xs) ≡ runOf w word state (drop i xs)
+      → runOf w word next (drop (i + 1) xs) ≡ runOf w word state (drop i xs)
   run-more next h e s = rw (drop-here xs i h, e, s)
 
   pub run-end : i < length xs → eqb (getD xs i 0) 10 ≡ true → closedOf w state (drop (i + 1) xs) ≡ runOf w word state (drop i xs)
@@ -37,5 +37,5 @@ unfolding lineAt
 line-missing xs at n line h = rw (drop-of-length-le xs h)
 
 pub line-there : (w : Wanted) (word xs : List ℕ) (at : ℕ) → at < length xs → all isLetter word ≡ true → w .high < cap
-  → runOf w word (Word 0) (drop at xs) ≡ brief (lineAt (w .line) (lineWanted word w) (drop at xs))
+    → runOf w word (Word 0) (drop at xs) ≡ brief (lineAt (w .line) (lineWanted word w) (drop at xs))
 line-there w word xs at h l c = rw (drop-here xs at h) (run-line w word (getD xs at 0) (drop (at + 1) xs) l c)

@@ -7,8 +7,8 @@ use lib.Dec.{ltb}
 use Rattle.refusals.specs.First.{choose}
 use Rattle.refusals.specs.Limits.{maxVars, maxDegree, maxFile}
 use Rattle.layout.specs.Answer.{Layout, Answer, file, refused, answer}
-use Rattle.narrow_file.specs.declared.Read.{Read}
-use Rattle.narrow_file.specs.declared.Read.the-variants.{File, Refused}
+use Rattle.narrow_file.specs.declared.Reply.{Reply}
+use Rattle.narrow_file.specs.declared.Reply.the-variants.{File, Refused}
 
 -- p = 2^31 - 1
 abbrev pub p : ℕ
@@ -26,7 +26,7 @@ narrow =
       mostVars = maxVars;
       mostDegree = maxDegree;
       mostBytes = maxFile;
-      perRound = λ degree. degree + 1
+      perRound = λ degree. degree + 1;
     }
 
 -- "last, refusal 4 for the lent message list": it has fewer than M(K+1) places
@@ -53,6 +53,6 @@ abbrev pub told : Answer → Head
 told (file vars degree claim coefficients) = head vars degree claim
 told (refused number line) = no number line
 
-abbrev pub said : Read → Head
+abbrev pub said : Reply → Head
 said (File vars degree claim) = head vars degree claim
 said (Refused number line) = no number line

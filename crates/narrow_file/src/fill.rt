@@ -5,7 +5,6 @@ ghost use lib.ListN.{length, take, drop};
 ghost use Rattle.layout.specs.Bytes.{classOf, digit};
 ghost use Rattle.narrow_file.specs.Steps.{meant};
 ghost use Rattle.narrow_file.specs.Passes.{stores, carried, collect, put};
-
 use crate::line;
 use crate::line::Class;
 

@@ -104,13 +104,23 @@ fn with_digit(n: Number, wanted: Wanted, b: u8) -> State
     }
     if n.digits == 0 {
         let value = more(0, b);
-        return State::Numbers(Number { digits: 1, value, commas: n.commas, allowed: n.allowed });
+        return State::Numbers(Number {
+            digits: 1,
+            value,
+            commas: n.commas,
+            allowed: n.allowed,
+        });
     }
     if n.value == 0 {
         return State::Bad;
     }
     let value = more(n.value, b);
-    State::Numbers(Number { digits: n.digits + 1, value, commas: n.commas, allowed: n.allowed })
+    State::Numbers(Number {
+        digits: n.digits + 1,
+        value,
+        commas: n.commas,
+        allowed: n.allowed,
+    })
 }
 
 // A comma: the number before it ends, and the next one starts.
@@ -124,7 +134,12 @@ fn with_comma(n: Number, wanted: Wanted) -> State
         return State::Bad;
     }
     let allowed = still(n, wanted);
-    State::Numbers(Number { digits: 0, value: 0, commas: n.commas - 1, allowed })
+    State::Numbers(Number {
+        digits: 0,
+        value: 0,
+        commas: n.commas - 1,
+        allowed,
+    })
 }
 
 // A letter of the line's word.
@@ -146,7 +161,12 @@ fn open(letters: usize, word: &[u8], wanted: Wanted) -> State
     ensures { λ r. ⌜ r ≡ opened wanted (now (word .entry)) letters ⌝ }
 {
     if letters == word.len() {
-        State::Numbers(Number { digits: 0, value: 0, commas: wanted.commas, allowed: true })
+        State::Numbers(Number {
+            digits: 0,
+            value: 0,
+            commas: wanted.commas,
+            allowed: true,
+        })
     } else {
         State::Bad
     }
@@ -219,7 +239,10 @@ fn closed_number(n: Number, wanted: Wanted, next: usize) -> Line
         return Line::Refused { number: 10, line };
     }
     if still(n, wanted) {
-        Line::Found { last: n.value, next }
+        Line::Found {
+            last: n.value,
+            next,
+        }
     } else {
         Line::Refused { number: 12, line }
     }

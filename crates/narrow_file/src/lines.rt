@@ -6,20 +6,29 @@ ghost use Rattle.layout.specs.Answer.{answer, fromEdition, fromField, fromVars,
 ghost use Rattle.narrow_file.specs.Narrow.{narrow};
 ghost use Rattle.narrow_file.specs.Steps.{saidLine};
 ghost use Rattle.narrow_file.specs.Passes.{saidJudged, collect, bare};
-
+use crate::line;
 use crate::line::Line;
 use crate::line::Wanted;
-use crate::line;
 
 // What the first pass finds: a refusal; or the file's head, and where its rounds start.
 pub enum Judged {
-    Refused { number: u32, line: u32 },
-    File { vars: u32, degree: u32, claim: u32, rounds: usize },
+    Refused {
+        number: u32,
+        line: u32,
+    },
+    File {
+        vars: u32,
+        degree: u32,
+        claim: u32,
+        rounds: usize,
+    },
 }
 
 // The edition, the modulus, and the most digits of a number.
 const EDITION: u64 = 1;
+
 const P: u64 = 2147483647;
+
 const DIGITS: u32 = 10;
 
 // The `end` line, and nothing after it.
@@ -27,15 +36,29 @@ fn from_end(bytes: &[u8], at: usize, vars: u32, degree: u32, claim: u32, rounds:
     requires { ⌜ vars ≤ 16 ⌝ }
     ensures { λ r. ⌜ saidJudged (now (bytes .entry)) r ≡ fromEnd narrow vars degree claim (take (vars * (degree + 1)) (collect 0 (drop rounds (now (bytes .entry))))) (drop at (now (bytes .entry))) ⌝ }
 {
-    let wanted = Wanted { line: vars + 6, commas: 0, digits: DIGITS, low: vars as u64, high: vars as u64 };
+    let wanted = Wanted {
+        line: vars + 6,
+        commas: 0,
+        digits: DIGITS,
+        low: vars as u64,
+        high: vars as u64,
+    };
     let found = line::line_at(bytes, at, b"end", wanted);
     match found {
         Line::Refused { number, line } => Judged::Refused { number, line },
         Line::Found { last: _, next } => {
             if next < bytes.len() {
-                Judged::Refused { number: 13, line: vars + 7 }
+                Judged::Refused {
+                    number: 13,
+                    line: vars + 7,
+                }
             } else {
-                Judged::File { vars, degree, claim, rounds }
+                Judged::File {
+                    vars,
+                    degree,
+                    claim,
+                    rounds,
+                }
             }
         }
     }
@@ -49,7 +72,13 @@ fn rounds_at(bytes: &[u8], at: usize, vars: u32, degree: u32) -> Line
     let mut place = at;
     let mut j: u32 = 0;
     while j < vars {
-        let wanted = Wanted { line: j + 6, commas: degree, digits: DIGITS, low: 0, high: P - 1 };
+        let wanted = Wanted {
+            line: j + 6,
+            commas: degree,
+            digits: DIGITS,
+            low: 0,
+            high: P - 1,
+        };
         let found = line::line_at(bytes, place, b"round", wanted);
         match found {
             Line::Refused { number, line } => {
@@ -61,7 +90,10 @@ fn rounds_at(bytes: &[u8], at: usize, vars: u32, degree: u32) -> Line
         }
         j += 1;
     }
-    Line::Found { last: 0, next: place }
+    Line::Found {
+        last: 0,
+        next: place,
+    }
 }
 
 // From the first round on.
@@ -81,7 +113,13 @@ fn from_claim(bytes: &[u8], at: usize, vars: u32, degree: u32) -> Judged
     requires { ⌜ vars ≤ 16 ⌝ }
     ensures { λ r. ⌜ saidJudged (now (bytes .entry)) r ≡ fromClaim narrow vars degree (drop at (now (bytes .entry))) ⌝ }
 {
-    let wanted = Wanted { line: 5, commas: 0, digits: DIGITS, low: 0, high: P - 1 };
+    let wanted = Wanted {
+        line: 5,
+        commas: 0,
+        digits: DIGITS,
+        low: 0,
+        high: P - 1,
+    };
     let found = line::line_at(bytes, at, b"claim", wanted);
     match found {
         Line::Refused { number, line } => Judged::Refused { number, line },
@@ -94,7 +132,13 @@ fn from_degree(bytes: &[u8], at: usize, vars: u32) -> Judged
     requires { ⌜ vars ≤ 16 ⌝ }
     ensures { λ r. ⌜ saidJudged (now (bytes .entry)) r ≡ fromDegree narrow vars (drop at (now (bytes .entry))) ⌝ }
 {
-    let wanted = Wanted { line: 4, commas: 0, digits: DIGITS, low: 1, high: refusals::MAX_DEGREE as u64 };
+    let wanted = Wanted {
+        line: 4,
+        commas: 0,
+        digits: DIGITS,
+        low: 1,
+        high: refusals::MAX_DEGREE as u64,
+    };
     let found = line::line_at(bytes, at, b"degree", wanted);
     match found {
         Line::Refused { number, line } => Judged::Refused { number, line },
@@ -106,7 +150,13 @@ fn from_degree(bytes: &[u8], at: usize, vars: u32) -> Judged
 fn from_vars(bytes: &[u8], at: usize) -> Judged
     ensures { λ r. ⌜ saidJudged (now (bytes .entry)) r ≡ fromVars narrow (drop at (now (bytes .entry))) ⌝ }
 {
-    let wanted = Wanted { line: 3, commas: 0, digits: DIGITS, low: 0, high: refusals::MAX_VARS as u64 };
+    let wanted = Wanted {
+        line: 3,
+        commas: 0,
+        digits: DIGITS,
+        low: 0,
+        high: refusals::MAX_VARS as u64,
+    };
     let found = line::line_at(bytes, at, b"vars", wanted);
     match found {
         Line::Refused { number, line } => Judged::Refused { number, line },
@@ -118,7 +168,13 @@ fn from_vars(bytes: &[u8], at: usize) -> Judged
 fn from_field(bytes: &[u8], at: usize) -> Judged
     ensures { λ r. ⌜ saidJudged (now (bytes .entry)) r ≡ fromField narrow (drop at (now (bytes .entry))) ⌝ }
 {
-    let wanted = Wanted { line: 2, commas: 0, digits: DIGITS, low: P, high: P };
+    let wanted = Wanted {
+        line: 2,
+        commas: 0,
+        digits: DIGITS,
+        low: P,
+        high: P,
+    };
     let found = line::line_at(bytes, at, b"field", wanted);
     match found {
         Line::Refused { number, line } => Judged::Refused { number, line },
@@ -130,7 +186,13 @@ fn from_field(bytes: &[u8], at: usize) -> Judged
 fn from_edition(bytes: &[u8], at: usize) -> Judged
     ensures { λ r. ⌜ saidJudged (now (bytes .entry)) r ≡ fromEdition narrow (drop at (now (bytes .entry))) ⌝ }
 {
-    let wanted = Wanted { line: 1, commas: 0, digits: DIGITS, low: EDITION, high: EDITION };
+    let wanted = Wanted {
+        line: 1,
+        commas: 0,
+        digits: DIGITS,
+        low: EDITION,
+        high: EDITION,
+    };
     let found = line::line_at(bytes, at, b"sumproof", wanted);
     match found {
         Line::Refused { number, line } => Judged::Refused { number, line },

@@ -30,7 +30,7 @@ same-length : tie.Need-same-length Inv-loop μ-loop
 same-length c = omega arith
 
 returns : tie.Need-returns Inv-loop μ-loop
-returns c = 
+returns c =
     let a = c .before .before .before .before .before .args in
     let l = c .before .before .loop in
     sym (pour-out (a .places) (l .filled) (l .value) (l .messages) (now (a .bytes)) (l .i) (c .if1 .taken))
@@ -61,14 +61,15 @@ loop-less : tie.Need-loop-less Inv-loop μ-loop
 loop-less c = omega arith
 
 loop-again : tie.Need-loop-again Inv-loop μ-loop
-loop-again c = 
+loop-again c =
     let a = c .before .before .before .before .before .before .before .before .before .args in
     let l = c .before .before .before .before .before .before .loop in
-    let h = c .before .before .before .before .before .loop-test .taken in
-    (length-set (l .messages) (l .filled) (l .value) ∙ l .inv .0,
+    let h = c .before .before .before .before .before .loop-test .taken in (
+      length-set (l .messages) (l .filled) (l .value) ∙ l .inv .0,
       pour-store (a .places) (l .filled) (l .value) (l .messages) (now (a .bytes)) (l .i) (c .before .before .before .before .if1 .left) h (omega arith)
-      (stored _ _ _ true (c .before .before .class-of .ensures) (c .before .ends-number .ensures) (c .if2 .taken))
-      ∙ l .inv .1)
+          (stored _ _ _ true (c .before .before .class-of .ensures) (c .before .ends-number .ensures) (c .if2 .taken))
+          ∙ l .inv .1,
+    )
 
 carry-requires : tie.Need-carry-requires Inv-loop μ-loop
 carry-requires c κs = c .before .before .class-of .ensures
@@ -77,20 +78,21 @@ loop-less-2 : tie.Need-loop-less-2 Inv-loop μ-loop
 loop-less-2 c = omega arith
 
 loop-again-2 : tie.Need-loop-again-2 Inv-loop μ-loop
-loop-again-2 c = 
+loop-again-2 c =
     let a = c .before .before .before .before .before .before .before .before .before .before .args in
-    let l = c .before .before .before .before .before .before .before .loop in
-    (l .inv .0,
+    let l = c .before .before .before .before .before .before .before .loop in (
+      l .inv .0,
       pour-carry (a .places) (l .filled) (l .value) (l .messages) (now (a .bytes)) (l .i) (c .before .before .before .before .before .if1 .left) (c .carry .result)
-      (stored _ _ _ false (c .before .before .before .class-of .ensures) (c .before .before .ends-number .ensures) (c .before .if2 .left))
-      (rw (← (c .before .before .before .class-of .ensures)) (c .carry .ensures))
-      ∙ l .inv .1)
+          (stored _ _ _ false (c .before .before .before .class-of .ensures) (c .before .before .ends-number .ensures) (c .before .if2 .left))
+          (rw (← (c .before .before .before .class-of .ensures)) (c .carry .ensures))
+          ∙ l .inv .1,
+    )
 
 same-length-2 : tie.Need-same-length-2 Inv-loop μ-loop
 same-length-2 c = omega arith
 
 returns-2 : tie.Need-returns-2 Inv-loop μ-loop
-returns-2 c = 
+returns-2 c =
     let a = c .before .before .before .before .args in
     let l = c .before .loop in
     sym (pour-full (a .places) (l .filled) (l .value) (l .messages) (drop (l .i) (now (a .bytes))) (c .loop-test .left))

@@ -47,13 +47,13 @@ closed-requires : tie.Need-closed-requires Inv-loop μ-loop
 closed-requires c κs = tt
 
 returns-2 : tie.Need-returns-2 Inv-loop μ-loop
-returns-2 c = 
+returns-2 c =
     let a = c .before .before .before .before .before .before .before .before .before .before .args in
     let l = c .before .before .before .before .before .before .loop in
     let h = c .before .before .before .before .before .loop-test .taken in
     c .closed .ensures (now (a .bytes))
     ∙ (run-end (a .wanted) (now (a .word)) (now (a .bytes)) (l .state) (l .i) h
-      (end-told _ _ _ true (c .before .before .before .class-of .ensures) (c .before .before .ends .ensures) (c .before .if2 .taken))
+    (end-told _ _ _ true (c .before .before .before .class-of .ensures) (c .before .before .ends .ensures) (c .before .if2 .taken))
     ∙ (l .inv ∙ line-there (a .wanted) (now (a .word)) (now (a .bytes)) (a .at) (c .before .before .before .before .before .before .before .if1 .left) (c .before .before .before .before .before .before .before .before .before .before .pre .0) (c .before .before .before .before .before .before .before .before .before .before .pre .1)))
 
 step-requires : tie.Need-step-requires Inv-loop μ-loop
@@ -63,7 +63,7 @@ loop-less : tie.Need-loop-less Inv-loop μ-loop
 loop-less c = omega arith
 
 loop-again : tie.Need-loop-again Inv-loop μ-loop
-loop-again c = 
+loop-again c =
     let a = c .before .before .before .before .before .before .before .before .before .before .args in
     let l = c .before .before .before .before .before .before .loop in
     let h = c .before .before .before .before .before .loop-test .taken in
@@ -73,7 +73,7 @@ loop-again c =
     ∙ l .inv
 
 returns-3 : tie.Need-returns-3 Inv-loop μ-loop
-returns-3 c = 
+returns-3 c =
     let a = c .before .before .before .before .before .args in
     let l = c .before .loop in
     run-out (a .wanted) (now (a .word)) (now (a .bytes)) (l .state) (l .i) (c .loop-test .left)

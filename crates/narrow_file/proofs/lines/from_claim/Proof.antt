@@ -31,7 +31,7 @@ enum-known-found-2 : tie.Need-enum-known-found-2
 enum-known-found-2 c = search needs
 
 cast-from-rounds : tie.Need-cast-from-rounds
-cast-from-rounds c = 
+cast-from-rounds c =
     omega (arith, last-high (now (c .before .before .before .before .before .before .args .bytes)) (drop (c .before .before .before .before .before .before .args .at) (now (c .before .before .before .before .before .before .args .bytes))) (claimLine narrow .word) 5 claimWanted _ (c .before .before .before .line-at .ensures) (c .before .found2 .given .1))
 
 from-rounds-requires : tie.Need-from-rounds-requires
@@ -39,13 +39,13 @@ from-rounds-requires c κs = search needs
 
 returns : tie.Need-returns
 unfolding fromClaim
-returns c = 
+returns c =
     let a = c .before .before .before .before .before .before .args in
     then-refused (now (a .bytes)) (a .at) 5 claim-line _ (c .before .before .before .line-at .ensures) _ (c .before .found .given .1)
 
 returns-2 : tie.Need-returns-2
 unfolding fromClaim
-returns-2 c = 
+returns-2 c =
     let a = c .before .before .before .before .before .before .before .args in
     c .from-rounds .ensures
     ∙ then-found (now (a .bytes)) (a .at) 5 claim-line _ (c .before .before .before .before .line-at .ensures) (λ last rest. fromRounds narrow (a .vars) (a .degree) last rest) (c .before .before .found2 .given .1)

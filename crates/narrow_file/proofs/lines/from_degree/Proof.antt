@@ -28,7 +28,7 @@ enum-known-found-2 : tie.Need-enum-known-found-2
 enum-known-found-2 c = search needs
 
 cast-from-claim : tie.Need-cast-from-claim
-cast-from-claim c = 
+cast-from-claim c =
     omega (arith, last-high (now (c .before .before .before .before .before .before .args .bytes)) (drop (c .before .before .before .before .before .before .args .at) (now (c .before .before .before .before .before .before .args .bytes))) (degreeLine narrow .word) 4 degreeWanted _ (c .before .before .before .line-at .ensures) (c .before .found2 .given .1))
 
 from-claim-requires : tie.Need-from-claim-requires
@@ -36,13 +36,13 @@ from-claim-requires c κs = search needs
 
 returns : tie.Need-returns
 unfolding fromDegree
-returns c = 
+returns c =
     let a = c .before .before .before .before .before .before .args in
     then-refused (now (a .bytes)) (a .at) 4 degree-line _ (c .before .before .before .line-at .ensures) _ (c .before .found .given .1)
 
 returns-2 : tie.Need-returns-2
 unfolding fromDegree
-returns-2 c = 
+returns-2 c =
     let a = c .before .before .before .before .before .before .before .args in
     c .from-claim .ensures
     ∙ then-found (now (a .bytes)) (a .at) 4 degree-line _ (c .before .before .before .before .line-at .ensures) (λ last rest. fromClaim narrow (a .vars) last rest) (c .before .before .found2 .given .1)

@@ -30,13 +30,13 @@ from-field-requires c κs = search needs
 
 returns : tie.Need-returns
 unfolding fromEdition
-returns c = 
+returns c =
     let a = c .before .before .before .before .before .before .args in
     then-refused (now (a .bytes)) (a .at) 1 edition-line _ (c .before .before .before .line-at .ensures) _ (c .before .found .given .1)
 
 returns-2 : tie.Need-returns-2
 unfolding fromEdition
-returns-2 c = 
+returns-2 c =
     let a = c .before .before .before .before .before .before .before .args in
     c .from-field .ensures
     ∙ then-found (now (a .bytes)) (a .at) 1 edition-line _ (c .before .before .before .before .line-at .ensures) (λ last rest. fromField narrow rest) (c .before .before .found2 .given .1)

@@ -30,17 +30,17 @@ add-t22 c = search needs
 
 returns : tie.Need-returns
 unfolding fromEnd
-returns c = 
+returns c =
     let a = c .before .before .before .before .before .before .args in
     then-refused (now (a .bytes)) (a .at) (a .vars + 6) (end-line (a .vars + 6) (a .vars)) _ (c .before .before .before .line-at .ensures) _ (c .before .found .given .1)
 
 returns-2 : tie.Need-returns-2
-returns-2 c = 
+returns-2 c =
     let a = c .before .before .before .before .before .before .before .args in
     end-some (now (a .bytes)) (a .at) (a .vars) (a .degree) (a .claim) _ _ (c .before .before .before .before .line-at .ensures) (c .before .before .found2 .given .1) (c .if1 .taken)
 
 returns-3 : tie.Need-returns-3
-returns-3 c = 
+returns-3 c =
     let a = c .before .before .before .before .before .before .before .args in
     end-none (now (a .bytes)) (a .at) (a .vars) (a .degree) (a .claim) _ _ (c .before .before .before .before .line-at .ensures) (c .before .before .found2 .given .1) (c .if1 .left)
 

@@ -30,13 +30,13 @@ from-vars-requires c κs = search needs
 
 returns : tie.Need-returns
 unfolding fromField
-returns c = 
+returns c =
     let a = c .before .before .before .before .before .before .args in
     then-refused (now (a .bytes)) (a .at) 2 field-line _ (c .before .before .before .line-at .ensures) _ (c .before .found .given .1)
 
 returns-2 : tie.Need-returns-2
 unfolding fromField
-returns-2 c = 
+returns-2 c =
     let a = c .before .before .before .before .before .before .before .args in
     c .from-vars .ensures
     ∙ then-found (now (a .bytes)) (a .at) 2 field-line _ (c .before .before .before .before .line-at .ensures) (λ last rest. fromVars narrow rest) (c .before .before .found2 .given .1)

@@ -23,12 +23,12 @@ from-end-requires : tie.Need-from-end-requires
 from-end-requires c κs = search needs
 
 returns : tie.Need-returns
-returns c = 
+returns c =
     let a = c .before .before .before .before .before .args in
     rounds-refused (now (a .bytes)) (a .at) (a .vars) (a .degree) (a .claim) _ (c .before .before .before .rounds-at .ensures) (c .before .found .given .1)
 
 returns-2 : tie.Need-returns-2
-returns-2 c = 
+returns-2 c =
     let a = c .before .before .before .before .before .before .args in
     c .from-end .ensures
     ∙ rounds-found (now (a .bytes)) (a .at) (a .vars) (a .degree) (a .claim) _ (c .before .before .before .before .rounds-at .ensures) (c .before .before .found2 .given .1)

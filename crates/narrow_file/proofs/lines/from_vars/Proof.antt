@@ -28,22 +28,22 @@ enum-known-found-2 : tie.Need-enum-known-found-2
 enum-known-found-2 c = search needs
 
 cast-from-degree : tie.Need-cast-from-degree
-cast-from-degree c = 
+cast-from-degree c =
     omega (arith, last-high (now (c .before .before .before .before .before .before .args .bytes)) (drop (c .before .before .before .before .before .before .args .at) (now (c .before .before .before .before .before .before .args .bytes))) (varsLine narrow .word) 3 varsWanted _ (c .before .before .before .line-at .ensures) (c .before .found2 .given .1))
 
 from-degree-requires : tie.Need-from-degree-requires
-from-degree-requires c κs = 
+from-degree-requires c κs =
     last-high (now (c .before .before .before .before .before .before .args .bytes)) (drop (c .before .before .before .before .before .before .args .at) (now (c .before .before .before .before .before .before .args .bytes))) (varsLine narrow .word) 3 varsWanted _ (c .before .before .before .line-at .ensures) (c .before .found2 .given .1)
 
 returns : tie.Need-returns
 unfolding fromVars
-returns c = 
+returns c =
     let a = c .before .before .before .before .before .before .args in
     then-refused (now (a .bytes)) (a .at) 3 vars-line _ (c .before .before .before .line-at .ensures) _ (c .before .found .given .1)
 
 returns-2 : tie.Need-returns-2
 unfolding fromVars
-returns-2 c = 
+returns-2 c =
     let a = c .before .before .before .before .before .before .before .args in
     c .from-degree .ensures
     ∙ then-found (now (a .bytes)) (a .at) 3 vars-line _ (c .before .before .before .before .line-at .ensures) (λ last rest. fromDegree narrow last rest) (c .before .before .found2 .given .1)

@@ -42,7 +42,7 @@ enum-known-found : tie.Need-enum-known-found Inv-loop μ-loop
 enum-known-found c = search needs
 
 returns : tie.Need-returns Inv-loop μ-loop
-returns c = 
+returns c =
     let a = c .before .before .before .before .before .before .before .before .args in
     let l = c .before .before .before .before .before .before .loop in
     round-refused (now (a .bytes)) (l .place) (a .vars) (a .degree) (l .j) (c .before .before .before .before .before .loop-test .taken) _ (c .before .before .before .line-at .ensures) (c .before .found .given .1)
@@ -58,15 +58,16 @@ loop-less : tie.Need-loop-less Inv-loop μ-loop
 loop-less c = omega arith
 
 loop-again : tie.Need-loop-again Inv-loop μ-loop
-loop-again c = 
+loop-again c =
     let a = c .before .before .before .before .before .before .before .before .args in
-    let l = c .before .before .before .before .before .before .loop in
-    (omega arith,
+    let l = c .before .before .before .before .before .before .loop in (
+      omega arith,
       round-found (now (a .bytes)) (l .place) (a .vars) (a .degree) (l .j) (c .before .before .before .before .before .loop-test .taken) _ (c .before .before .before .line-at .ensures) (c .before .found2 .given .1)
-      ∙ l .inv .1)
+          ∙ l .inv .1,
+    )
 
 returns-2 : tie.Need-returns-2 Inv-loop μ-loop
-returns-2 c = 
+returns-2 c =
     let a = c .before .before .before .args in
     let l = c .before .loop in
     round-none (drop (l .place) (now (a .bytes))) (a .vars) (a .degree) (l .j) (c .loop-test .left) ∙ l .inv .1
