@@ -41,6 +41,7 @@ pub data Term : Type 0 where
 infixl 60 _⊕_
 infixl 70 _⊗_
 infix 80 ⊖_
+
 abbrev pub meaning : ℕ → Term → ℕ
 meaning n (at x) = x
 meaning n (s ⊕ t) = add n (meaning n s) (meaning n t)

@@ -9,6 +9,7 @@ pub data Rule : Type 0 where
   _when_ : ℕ → Bool → Rule
 
 infix 40 _when_
+
 -- what an entry answers: a refusal's number, or a value
 pub data Answer (A : Type 0) : Type 0 where
   refused : ℕ → Answer A
