@@ -4,8 +4,10 @@
 --   Numbers   numbers in decimal digits, and parts
 --   Lines     what is known of bytes by what is found in them
 --   Answers   a list of bytes that is answered as a file, line by line
+--   Decimal   numbers and their digits
 pub mod Tests
 pub mod Classes
 pub mod Numbers
 pub mod Lines
 pub mod Answers
+pub mod Decimal
