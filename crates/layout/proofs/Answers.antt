@@ -109,12 +109,12 @@ whole layout v d c cs bytes e = size (ltb (layout .mostBytes) (length bytes)) re
     size false f g = lines layout v d c cs bytes (ltb-false (layout .mostBytes) (length bytes) f) (rw f at g)
 
 -- a line that is found has as many numbers as it must
-found-count : (n : ℕ) (line : Line) (s ns rest : List ℕ) → lineAt n line s ≡ found ns rest → length ns ≡ line .count
+pub found-count : (n : ℕ) (line : Line) (s ns rest : List ℕ) → lineAt n line s ≡ found ns rest → length ns ≡ line .count
 found-count n line s ns rest e =
     let g = found-good n line s ns rest e in
     ap length (g .parted .values) ∙ (length-map (parts (g .text)) value ∙ g .parted .asMany)
 
-lines-count : (m n : ℕ) (line : Line) (s cs rest : List ℕ) → linesAt n m line s ≡ found cs rest → length cs ≡ m * line .count
+pub lines-count : (m n : ℕ) (line : Line) (s cs rest : List ℕ) → linesAt n m line s ≡ found cs rest → length cs ≡ m * line .count
 unfolding linesAt
 lines-count zero n line s cs rest e = let p : [] ≡ cs = cc in sym (ap length p) ∙ sym (zero-mul (line .count))
 lines-count (suc m) n line s cs rest e = first (lineAt n line s) refl e (λ s′ cs′. lines-count m (suc n) line s′ cs′ rest)

@@ -5,9 +5,11 @@
 --   Lines     what is known of bytes by what is found in them
 --   Answers   a list of bytes that is answered as a file, line by line
 --   Decimal   numbers and their digits
+--   Written   lines found and lines written are the same
 pub mod Tests
 pub mod Classes
 pub mod Numbers
 pub mod Lines
 pub mod Answers
 pub mod Decimal
+pub mod Written
