@@ -13,7 +13,7 @@ use Rattle.layout.specs.Bytes.{parts}
 use Rattle.layout.specs.Number.{value}
 use Rattle.layout.specs.Line.{Line, Outcome, fault, found, lineAt, andThen, before}
 use Rattle.layout.specs.Answer.{Layout, Answer, file, refused, answer, answerThen, only, linesAt, editionLine, fieldLine, varsLine, degreeLine, claimLine, roundLine, endLine, fromAfter, fromEnd, fromRounds, fromClaim, fromDegree, fromVars, fromField, fromEdition}
-use Rattle.layout.proofs.Lines.{Good, found-good}
+use Rattle.layout.proofs.Lines.{found-good, lines-induction}
 
 -- what an answer that is a file went on from
 went-on : (o : Outcome) (next : List ℕ → List ℕ → Answer) (v d c : ℕ) (cs : List ℕ) → answerThen o next ≡ file v d c cs
@@ -115,23 +115,10 @@ found-count n line s ns rest e =
     ap length (g .parted .values) ∙ (length-map (parts (g .text)) value ∙ g .parted .asMany)
 
 pub lines-count : (m n : ℕ) (line : Line) (s cs rest : List ℕ) → linesAt n m line s ≡ found cs rest → length cs ≡ m * line .count
-unfolding linesAt
-lines-count zero n line s cs rest e = let p : [] ≡ cs = cc in sym (ap length p) ∙ sym (zero-mul (line .count))
-lines-count (suc m) n line s cs rest e = first (lineAt n line s) refl e (λ s′ cs′. lines-count m (suc n) line s′ cs′ rest)
-  where
-    later : (ns s′ : List ℕ) (o : Outcome) → linesAt (suc n) m line s′ ≡ o → before ns o ≡ found cs rest → length ns ≡ line .count
-        → ((cs′ : List ℕ) → linesAt (suc n) m line s′ ≡ found cs′ rest → length cs′ ≡ m * line .count) → length cs ≡ suc m * line .count
-    later ns s′ (fault a b) f g h ih = absurd (let z : _≡_ {A = ℕ} 0 1 = cc in omega arith)
-    later ns s′ (found ms r) f g h ih =
-        let p : ns ++ ms ≡ cs = cc in
-        let q : r ≡ rest = cc in
-        let i = ih ms (f ∙ ap (λ (x : List ℕ). found ms x) q) in
-        sym (ap length p) ∙ (length-append ns ms ∙ omega arith)
-
-    first : (o : Outcome) → lineAt n line s ≡ o → andThen o (λ s′. linesAt (suc n) m line s′) ≡ found cs rest
-        → ((s′ cs′ : List ℕ) → linesAt (suc n) m line s′ ≡ found cs′ rest → length cs′ ≡ m * line .count) → length cs ≡ suc m * line .count
-    first (fault a b) f g ih = absurd (let z : _≡_ {A = ℕ} 0 1 = cc in omega arith)
-    first (found ns s′) f g ih = later ns s′ (linesAt (suc n) m line s′) refl g (found-count n line s ns s′ f) (ih s′)
+lines-count m n line s cs rest e =
+    lines-induction line rest (λ m s cs. length cs ≡ m * line .count) (sym (zero-mul (line .count)))
+    (λ m n s ns s′ ms f h. length-append ns ms ∙ omega (arith, found-count n line s ns s′ f))
+    m n s cs e
 
 -- a file has as many coefficients as its vars and degree ask for
 pub file-count : (layout : Layout) (v d c : ℕ) (cs bytes : List ℕ) → answer layout bytes ≡ file v d c cs → length cs ≡ v * layout .perRound d

@@ -18,7 +18,7 @@ use Rattle.layout.specs.Answer.{linesAt}
 use Rattle.layout.specs.File.{list, lineOf, linesOf}
 use Rattle.layout.proofs.Tests.{both, between-holds}
 use Rattle.layout.proofs.Numbers.{parts-some, all-append}
-use Rattle.layout.proofs.Lines.{Good, found-good}
+use Rattle.layout.proofs.Lines.{found-good, lines-induction}
 use Rattle.layout.proofs.Answers.{found-count}
 use Rattle.layout.proofs.Decimal.{number-decimal, decimal-value, decimal-digits, decimal-number}
 
@@ -56,6 +56,10 @@ values-decimal most (p ∷ ps) h =
     let r = both (isNumber most p) (all (isNumber most) ps) h in
     ap₂ (λ (q : List ℕ) (qs : List (List ℕ)). q ∷ qs) (sym (number-decimal most p (r .0) .0)) (values-decimal most ps (r .1))
 
+-- a line's bytes, put together in two ways
+shape : (word text rest : List ℕ) → (word ++ 61 ∷ []) ++ text ++ 10 ∷ rest ≡ (word ++ 61 ∷ (text ++ 10 ∷ [])) ++ rest
+shape word text rest = simp append-assoc
+
 -- a line that is found is the line of its numbers
 pub found-written : (n : ℕ) (line : Line) (s ns rest : List ℕ) → lineAt n line s ≡ found ns rest → s ≡ lineOf line ns ++ rest
 found-written n line s ns rest e =
@@ -66,9 +70,6 @@ found-written n line s ns rest e =
       ∙ (ap join (sym (values-decimal (line .most) (parts t) (g .parted .each)))
       ∙ (sym (list-join (map value (parts t))) ∙ ap list (sym (g .parted .values)))) in
     g .bytes ∙ (ap (λ (x : List ℕ). (line .word ++ 61 ∷ []) ++ x ++ 10 ∷ rest) w ∙ shape (line .word) (list ns) rest)
-  where
-    shape : (word text rest : List ℕ) → (word ++ 61 ∷ []) ++ text ++ 10 ∷ rest ≡ (word ++ 61 ∷ (text ++ 10 ∷ [])) ++ rest
-    shape word text rest = simp append-assoc
 
 -- numbers that have at most so many digits
 abbrev pub Fit : ℕ → List ℕ → Type 0
@@ -174,6 +175,73 @@ written-found at line n ns rest w c f a =
     ap (lineAt at line) (sym (shape (line .word) (list (n ∷ ns)) rest))
     ∙ (ap (outcome at line) (first-line text rest quiet)
     ∙ (ap (judged at line rest) (form-beginning line (line .word ++ 61 ∷ []) (list (n ∷ ns)) ∙ numbers-list line n ns c f) ∙ rw a))
-  where
-    shape : (word text rest : List ℕ) → (word ++ 61 ∷ []) ++ text ++ 10 ∷ rest ≡ (word ++ 61 ∷ (text ++ 10 ∷ [])) ++ rest
-    shape word text rest = simp append-assoc
+
+written-some : (at : ℕ) (line : Line) (ns rest : List ℕ) → all isLetter (line .word) ≡ true → 1 ≤ length ns → length ns ≡ line .count → Fit (line .most) ns
+  → all (line .allowed) ns ≡ true → lineAt at line (lineOf line ns ++ rest) ≡ found ns rest
+written-some at line [] rest w l c f a = absurd (omega arith)
+written-some at line (n ∷ ns) rest w l c f a = written-found at line n ns rest w c f a
+
+-- the same for several lines
+one-more : (line : Line) (m : ℕ) (ns ms : List ℕ) → length ns ≡ line .count → linesOf (suc m) line (ns ++ ms) ≡ lineOf line ns ++ linesOf m line ms
+one-more line m ns ms h =
+    ap₂ (λ (a b : List ℕ). lineOf line a ++ linesOf m line b) (take-at ns ms (line .count) h) (drop-at ns ms (line .count) h)
+
+pub lines-written : (m n : ℕ) (line : Line) (s cs rest : List ℕ) → linesAt n m line s ≡ found cs rest → s ≡ linesOf m line cs ++ rest
+lines-written m n line s cs rest e =
+    lines-induction line rest (λ m s cs. s ≡ linesOf m line cs ++ rest) refl
+    (λ m n s ns s′ ms f h.
+      found-written n line s ns s′ f
+      ∙ (ap (λ (x : List ℕ). lineOf line ns ++ x) h
+      ∙ (sym (append-assoc (lineOf line ns) (linesOf m line ms) rest)
+      ∙ ap (λ (x : List ℕ). x ++ rest) (sym (one-more line m ns ms (found-count n line s ns s′ f))))))
+    m n s cs e
+
+pub lines-allowed : (m n : ℕ) (line : Line) (s cs rest : List ℕ) → linesAt n m line s ≡ found cs rest → all (line .allowed) cs ≡ true
+lines-allowed m n line s cs rest e =
+    lines-induction line rest (λ m s cs. all (line .allowed) cs ≡ true) refl
+    (λ m n s ns s′ ms f h. all-append (line .allowed) ns ms ∙ rw (found-allowed n line s ns s′ f) h)
+    m n s cs e
+
+fit-append : (most : ℕ) (ns ms : List ℕ) → Fit most ns → Fit most ms → Fit most (ns ++ ms)
+fit-append most [] ms f g = g
+fit-append most (n ∷ ns) ms f g = (f .0, fit-append most ns ms (f .1) g)
+
+pub lines-fit : (m n : ℕ) (line : Line) (s cs rest : List ℕ) → linesAt n m line s ≡ found cs rest → Fit (line .most) cs
+lines-fit m n line s cs rest e =
+    lines-induction line rest (λ m s cs. Fit (line .most) cs) tt
+    (λ m n s ns s′ ms f h. fit-append (line .most) ns ms (found-fit n line s ns s′ f) h)
+    m n s cs e
+
+-- and the other way round
+fit-take : (most k : ℕ) (ns : List ℕ) → Fit most ns → Fit most (take k ns)
+fit-take most zero ns f = tt
+fit-take most (suc k) [] f = tt
+fit-take most (suc k) (n ∷ ns) f = (f .0, fit-take most k ns (f .1))
+
+fit-drop : (most k : ℕ) (ns : List ℕ) → Fit most ns → Fit most (drop k ns)
+fit-drop most zero ns f = f
+fit-drop most (suc k) [] f = tt
+fit-drop most (suc k) (n ∷ ns) f = fit-drop most k ns (f .1)
+
+all-take-drop : (test : ℕ → Bool) (k : ℕ) (ns : List ℕ) → all test ns ≡ true → (all test (take k ns) ≡ true) × (all test (drop k ns) ≡ true)
+all-take-drop test k ns h =
+    both (all test (take k ns)) (all test (drop k ns))
+    (sym (all-append test (take k ns) (drop k ns)) ∙ (ap (all test) (take-append-drop k ns) ∙ h))
+
+pub written-lines : (m at : ℕ) (line : Line) (cs rest : List ℕ) → all isLetter (line .word) ≡ true → 1 ≤ line .count → length cs ≡ m * line .count → Fit (line .most) cs
+  → all (line .allowed) cs ≡ true → linesAt at m line (linesOf m line cs ++ rest) ≡ found cs rest
+unfolding linesAt
+written-lines zero at line [] rest w k c f a = refl
+written-lines zero at line (n ∷ cs) rest w k c f a = absurd (omega (arith, c))
+written-lines (suc m) at line cs rest w k c f a =
+    let ns = take (line .count) cs in
+    let ms = drop (line .count) cs in
+    let l : length ns ≡ line .count = length-take-le (line .count) cs (omega (arith, c)) in
+    let j : length ms ≡ m * line .count = length-drop (line .count) cs ∙ omega (arith, c) in
+    let t = all-take-drop (line .allowed) (line .count) cs a in
+    let one : lineAt at line (lineOf line ns ++ (linesOf m line ms ++ rest)) ≡ found ns (linesOf m line ms ++ rest) =
+      written-some at line ns (linesOf m line ms ++ rest) w (omega arith) l (fit-take (line .most) (line .count) cs f) (t .0) in
+    ap (λ (x : List ℕ). andThen (lineAt at line x) (λ y. linesAt (suc at) m line y)) (append-assoc (lineOf line ns) (linesOf m line ms) rest)
+    ∙ (ap (λ (o : Outcome). andThen o (λ y. linesAt (suc at) m line y)) one
+    ∙ (ap (before ns) (written-lines m (suc at) line ms rest w k j (fit-drop (line .most) (line .count) cs f) (t .1))
+    ∙ ap (λ (x : List ℕ). found x rest) (take-append-drop (line .count) cs)))
