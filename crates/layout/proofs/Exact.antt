@@ -113,3 +113,73 @@ module _ (layout : Layout) (v d c : ℕ) (cs bytes : List ℕ) (w : Whole layout
         degreeFits = subst (λ (n : ℕ). length (decimal n) ≤ layout .laterDigits) (sym (w .degree)) (fourth .fits);
         fileFits = subst (λ (xs : List ℕ). length xs ≤ layout .mostBytes) is-file (w .short)
       }
+
+-- the file of well-formed parts is answered as that file
+below : (p most : ℕ) (ns : List ℕ) → Elements p most ns → all (λ n. ltb n p) ns ≡ true
+below p most [] e = refl
+below p most (n ∷ ns) e = rw (lt-ltb n p (e .0)) (below p most ns (e .2))
+
+fit : (p most : ℕ) (ns : List ℕ) → Elements p most ns → Fit most ns
+fit p most [] e = tt
+fit p most (n ∷ ns) e = (e .1, fit p most ns (e .2))
+
+module _ (layout : Layout) (v d c : ℕ) (cs : List ℕ) (some : (k : ℕ) → 1 ≤ k → 1 ≤ layout .perRound k) (w : WellFormed layout v d c cs) where
+  from-edition : (r : List ℕ) → fromEdition layout (lineOf (editionLine layout) (layout .edition ∷ []) ++ r) ≡ fromField layout r
+  unfolding fromEdition
+  from-edition r =
+      let t = eq-eqb (layout .edition) (layout .edition) refl in
+      rw (written-found 1 (editionLine layout) (layout .edition) [] r refl refl (w .editionFits, tt) (rw t))
+
+  from-field : (r : List ℕ) → fromField layout (lineOf (fieldLine layout) (layout .modulus ∷ []) ++ r) ≡ fromVars layout r
+  unfolding fromField
+  from-field r =
+      let t = eq-eqb (layout .modulus) (layout .modulus) refl in
+      rw (written-found 2 (fieldLine layout) (layout .modulus) [] r refl refl (w .fieldFits, tt) (rw t))
+
+  from-vars : (r : List ℕ) → fromVars layout (lineOf (varsLine layout) (v ∷ []) ++ r) ≡ fromDegree layout v r
+  unfolding fromVars
+  from-vars r = rw (written-found 3 (varsLine layout) v [] r refl refl (w .varsFit, tt) (rw (le-leb v (layout .mostVars) (w .varsAllowed))))
+
+  from-degree : (r : List ℕ) → fromDegree layout v (lineOf (degreeLine layout) (d ∷ []) ++ r) ≡ fromClaim layout v d r
+  unfolding fromDegree
+  from-degree r =
+      rw (written-found 4 (degreeLine layout) d [] r refl refl (w .degreeFits, tt) (rw (between-in 1 (layout .mostDegree) d (w .degreeNotNone) (w .degreeAllowed))))
+
+  from-claim : (r : List ℕ) → fromClaim layout v d (lineOf (claimLine layout) (c ∷ []) ++ r) ≡ fromRounds layout v d c r
+  unfolding fromClaim
+  from-claim r =
+      let e = w .claimElement in
+      rw (written-found 5 (claimLine layout) c [] r refl refl (e .1, tt) (rw (lt-ltb c (layout .modulus) (e .0))))
+
+  from-rounds : (r : List ℕ) → fromRounds layout v d c (linesOf v (roundLine layout d) cs ++ r) ≡ fromEnd layout v d c cs r
+  unfolding fromRounds
+  from-rounds r =
+      rw (
+        written-lines v 6 (roundLine layout d) cs r refl (some d (w .degreeNotNone)) (w .asMany)
+        (fit (layout .modulus) (layout .laterDigits) cs (w .elements))
+        (below (layout .modulus) (layout .laterDigits) cs (w .elements))
+      )
+
+  from-end : fromEnd layout v d c cs (lineOf (endLine layout v) (v ∷ [])) ≡ file v d c cs
+  unfolding fromEnd
+  from-end =
+      let t = eq-eqb v v refl in
+      let l : lineAt (v + 6) (endLine layout v) (lineOf (endLine layout v) (v ∷ [])) ≡ found (v ∷ []) [] =
+        ap (lineAt (v + 6) (endLine layout v)) (sym (append-nil (lineOf (endLine layout v) (v ∷ []))))
+        ∙ written-found (v + 6) (endLine layout v) v [] [] refl refl (w .varsFit, tt) (rw t) in
+      rw l
+
+  answered : answer layout (fileOf layout v d c cs) ≡ file v d c cs
+  unfolding answer
+  answered =
+      rw (le-ltb (layout .mostBytes) (length (fileOf layout v d c cs)) (w .fileFits))
+      (unfold fileOf in from-edition _ ∙ (from-field _ ∙ (from-vars _ ∙ (from-degree _ ∙ (from-claim _ ∙ (from-rounds _ ∙ from-end))))))
+
+pub exactly : Exactly
+exactly layout v d c cs bytes some =
+    (λ e. let w = whole layout v d c cs bytes e in (is-file layout v d c cs bytes w, well-formed layout v d c cs bytes w),
+      λ h. ap (answer layout) (h .0) ∙ answered layout v d c cs some (h .1))
+
+pub one-content : OneContent
+one-content layout v w d e c b ms ns some p q f =
+    sym (answered layout v d c ms some p) ∙ (ap (answer layout) f ∙ answered layout w e b ns some q)
