@@ -67,7 +67,7 @@ more-digits v (b ∷ rest) h d =
 
 -- what is known of a number
 number-parts : (most : ℕ) (text : List ℕ) → isNumber most text ≡ true
-  → (all isDigit text ≡ true) × (1 ≤ length text) × (length text ≤ most) × (plain text ≡ true)
+    → (all isDigit text ≡ true) × (1 ≤ length text) × (length text ≤ most) × (plain text ≡ true)
 number-parts most text e =
     let a = both (all isDigit text) (between 1 most (length text) && plain text) e in
     let b = both (between 1 most (length text)) (plain text) (a .1) in
@@ -88,10 +88,11 @@ number-decimal most (b ∷ c ∷ rest) e =
     let l = between-holds 48 57 b (d .0) in
     let n = eqb-false b 48 (not-true (eqb b 48) (h .3)) in
     let s : 48 + (b - 48) ≡ b = omega arith in
-    let z : b - 48 ≡ 0 * 10 + (b - 48) = omega arith in
-    (ap (λ (ds : List ℕ). ds ++ c ∷ rest) (sym (decimal-one (b - 48) (omega arith) ∙ ap (λ (x : ℕ). x ∷ []) s))
-      ∙ (more-digits (b - 48) (c ∷ rest) (omega arith) (d .1) ∙ ap (λ (v : ℕ). decimal (valueFrom v (c ∷ rest))) z),
-      h .2)
+    let z : b - 48 ≡ 0 * 10 + (b - 48) = omega arith in (
+      ap (λ (ds : List ℕ). ds ++ c ∷ rest) (sym (decimal-one (b - 48) (omega arith) ∙ ap (λ (x : ℕ). x ∷ []) s))
+          ∙ (more-digits (b - 48) (c ∷ rest) (omega arith) (d .1) ∙ ap (λ (v : ℕ). decimal (valueFrom v (c ∷ rest))) z),
+      h .2,
+    )
 
 -- the digits of n: of value n, digits all, and with a first digit that is 0 only for 0 itself
 record Shape (n : ℕ) : Type 0 where
@@ -113,7 +114,7 @@ shape-one n h =
       later = [];
       here = d;
       lead = ap plain d;
-      high = λ l e. omega arith
+      high = λ l e. omega arith;
     }
 
 shape-more : (v e : ℕ) → 1 ≤ v → e < 10 → Shape v → Shape (v * 10 + e)
@@ -127,7 +128,7 @@ shape-more v e h l s =
       later = s .later ++ (48 + e) ∷ [];
       here = f;
       lead = ap plain f ∙ plain-first (s .first) (s .later ++ (48 + e) ∷ []) (s .high h);
-      high = λ m. s .high h
+      high = λ m. s .high h;
     }
 
 shape : (fuel n : ℕ) → n < fuel → Shape n

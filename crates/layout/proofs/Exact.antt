@@ -33,7 +33,7 @@ one n line s ns rest c e =
     record {
       wrote = found-written n line s ns rest e ∙ ap (λ (x : List ℕ). lineOf line x ++ rest) q;
       passes = both (line .allowed (only ns)) true (subst (λ (x : List ℕ). all (line .allowed) x ≡ true) q (found-allowed n line s ns rest e)) .0;
-      fits = subst (Fit (line .most)) q (found-fit n line s ns rest e) .0
+      fits = subst (Fit (line .most)) q (found-fit n line s ns rest e) .0;
     }
 
 elements : (p most : ℕ) (ns : List ℕ) → all (λ n. ltb n p) ns ≡ true → Fit most ns → Elements p most ns
@@ -80,17 +80,17 @@ module _ (layout : Layout) (v d c : ℕ) (cs bytes : List ℕ) (w : Whole layout
   is-file =
       known (layout .edition) is-edition first
       ∙ ap (λ (x : List ℕ). lineOf (editionLine layout) (layout .edition ∷ []) ++ x)
-        (known (layout .modulus) is-field second
-        ∙ ap (λ (x : List ℕ). lineOf (fieldLine layout) (layout .modulus ∷ []) ++ x)
-          (known v (sym (w .vars)) third
-          ∙ ap (λ (x : List ℕ). lineOf (varsLine layout) (v ∷ []) ++ x)
-            (known d (sym (w .degree)) fourth
-            ∙ ap (λ (x : List ℕ). lineOf (degreeLine layout) (d ∷ []) ++ x)
-              (known c (sym (w .claim)) fifth
-              ∙ ap (λ (x : List ℕ). lineOf (claimLine layout) (c ∷ []) ++ x)
-                (lines-written v 6 (roundLine layout d) (w .fifth .rest) cs (w .afterRounds) (w .rounds)
-                ∙ ap (λ (x : List ℕ). linesOf v (roundLine layout d) cs ++ x)
-                  (known v is-end last ∙ append-nil (lineOf (endLine layout v) (v ∷ []))))))))
+      (known (layout .modulus) is-field second
+      ∙ ap (λ (x : List ℕ). lineOf (fieldLine layout) (layout .modulus ∷ []) ++ x)
+      (known v (sym (w .vars)) third
+      ∙ ap (λ (x : List ℕ). lineOf (varsLine layout) (v ∷ []) ++ x)
+      (known d (sym (w .degree)) fourth
+      ∙ ap (λ (x : List ℕ). lineOf (degreeLine layout) (d ∷ []) ++ x)
+      (known c (sym (w .claim)) fifth
+      ∙ ap (λ (x : List ℕ). lineOf (claimLine layout) (c ∷ []) ++ x)
+      (lines-written v 6 (roundLine layout d) (w .fifth .rest) cs (w .afterRounds) (w .rounds)
+      ∙ ap (λ (x : List ℕ). linesOf v (roundLine layout d) cs ++ x)
+      (known v is-end last ∙ append-nil (lineOf (endLine layout v) (v ∷ []))))))))
 
   well-formed : WellFormed layout v d c cs
   well-formed =
@@ -100,18 +100,18 @@ module _ (layout : Layout) (v d c : ℕ) (cs bytes : List ℕ) (w : Whole layout
         degreeNotNone = k .0;
         degreeAllowed = k .1;
         claimElement =
-          subst (λ (n : ℕ). Elements (layout .modulus) (layout .laterDigits) (n ∷ [])) (sym (w .claim))
-          (ltb-true _ _ (fifth .passes), fifth .fits, tt);
+            subst (λ (n : ℕ). Elements (layout .modulus) (layout .laterDigits) (n ∷ [])) (sym (w .claim))
+            (ltb-true _ _ (fifth .passes), fifth .fits, tt);
         elements =
-          elements (layout .modulus) (layout .laterDigits) cs
-          (lines-allowed v 6 (roundLine layout d) (w .fifth .rest) cs (w .afterRounds) (w .rounds))
-          (lines-fit v 6 (roundLine layout d) (w .fifth .rest) cs (w .afterRounds) (w .rounds));
+            elements (layout .modulus) (layout .laterDigits) cs
+            (lines-allowed v 6 (roundLine layout d) (w .fifth .rest) cs (w .afterRounds) (w .rounds))
+            (lines-fit v 6 (roundLine layout d) (w .fifth .rest) cs (w .afterRounds) (w .rounds));
         asMany = lines-count v 6 (roundLine layout d) (w .fifth .rest) cs (w .afterRounds) (w .rounds);
         editionFits = subst (λ (n : ℕ). length (decimal n) ≤ layout .editionDigits) is-edition (first .fits);
         fieldFits = subst (λ (n : ℕ). length (decimal n) ≤ layout .fieldDigits) is-field (second .fits);
         varsFit = subst (λ (n : ℕ). length (decimal n) ≤ layout .laterDigits) (sym (w .vars)) (third .fits);
         degreeFits = subst (λ (n : ℕ). length (decimal n) ≤ layout .laterDigits) (sym (w .degree)) (fourth .fits);
-        fileFits = subst (λ (xs : List ℕ). length xs ≤ layout .mostBytes) is-file (w .short)
+        fileFits = subst (λ (xs : List ℕ). length xs ≤ layout .mostBytes) is-file (w .short);
       }
 
 -- the file of well-formed parts is answered as that file
@@ -155,9 +155,9 @@ module _ (layout : Layout) (v d c : ℕ) (cs : List ℕ) (some : (k : ℕ) → 1
   unfolding fromRounds
   from-rounds r =
       rw (
-        written-lines v 6 (roundLine layout d) cs r refl (some d (w .degreeNotNone)) (w .asMany)
-        (fit (layout .modulus) (layout .laterDigits) cs (w .elements))
-        (below (layout .modulus) (layout .laterDigits) cs (w .elements))
+      written-lines v 6 (roundLine layout d) cs r refl (some d (w .degreeNotNone)) (w .asMany)
+      (fit (layout .modulus) (layout .laterDigits) cs (w .elements))
+      (below (layout .modulus) (layout .laterDigits) cs (w .elements))
       )
 
   from-end : fromEnd layout v d c cs (lineOf (endLine layout v) (v ∷ [])) ≡ file v d c cs
@@ -165,8 +165,8 @@ module _ (layout : Layout) (v d c : ℕ) (cs : List ℕ) (some : (k : ℕ) → 1
   from-end =
       let t = eq-eqb v v refl in
       let l : lineAt (v + 6) (endLine layout v) (lineOf (endLine layout v) (v ∷ [])) ≡ found (v ∷ []) [] =
-        ap (lineAt (v + 6) (endLine layout v)) (sym (append-nil (lineOf (endLine layout v) (v ∷ []))))
-        ∙ written-found (v + 6) (endLine layout v) v [] [] refl refl (w .varsFit, tt) (rw t) in
+      ap (lineAt (v + 6) (endLine layout v)) (sym (append-nil (lineOf (endLine layout v) (v ∷ []))))
+      ∙ written-found (v + 6) (endLine layout v) v [] [] refl refl (w .varsFit, tt) (rw t) in
       rw l
 
   answered : answer layout (fileOf layout v d c cs) ≡ file v d c cs
@@ -176,9 +176,10 @@ module _ (layout : Layout) (v d c : ℕ) (cs : List ℕ) (some : (k : ℕ) → 1
       (unfold fileOf in from-edition _ ∙ (from-field _ ∙ (from-vars _ ∙ (from-degree _ ∙ (from-claim _ ∙ (from-rounds _ ∙ from-end))))))
 
 pub exactly : Exactly
-exactly layout v d c cs bytes some =
-    (λ e. let w = whole layout v d c cs bytes e in (is-file layout v d c cs bytes w, well-formed layout v d c cs bytes w),
-      λ h. ap (answer layout) (h .0) ∙ answered layout v d c cs some (h .1))
+exactly layout v d c cs bytes some = (
+  λ e. let w = whole layout v d c cs bytes e in (is-file layout v d c cs bytes w, well-formed layout v d c cs bytes w),
+  λ h. ap (answer layout) (h .0) ∙ answered layout v d c cs some (h .1),
+)
 
 pub one-content : OneContent
 one-content layout v w d e c b ms ns some p q f =

@@ -106,8 +106,8 @@ found-good n line s ns rest e = cut (firstLine s) refl e
 
 -- what holds of no lines, and of one line more if it holds of the others, holds of lines that are found
 pub lines-induction : (line : Line) (rest : List ℕ) (P : ℕ → List ℕ → List ℕ → Type 0) → P zero rest []
-  → ((m n : ℕ) (s ns s′ ms : List ℕ) → lineAt n line s ≡ found ns s′ → P m s′ ms → P (suc m) s (ns ++ ms))
-  → (m n : ℕ) (s cs : List ℕ) → linesAt n m line s ≡ found cs rest → P m s cs
+    → ((m n : ℕ) (s ns s′ ms : List ℕ) → lineAt n line s ≡ found ns s′ → P m s′ ms → P (suc m) s (ns ++ ms))
+    → (m n : ℕ) (s cs : List ℕ) → linesAt n m line s ≡ found cs rest → P m s cs
 unfolding linesAt
 lines-induction line rest P none more zero n s cs e =
     let p : [] ≡ cs = cc in
@@ -117,13 +117,14 @@ lines-induction line rest P none more (suc m) n s cs e =
     first (lineAt n line s) refl e (λ s′ ms. lines-induction line rest P none more m (suc n) s′ ms)
   where
     later : (ns s′ : List ℕ) (o : Outcome) → linesAt (suc n) m line s′ ≡ o → before ns o ≡ found cs rest → lineAt n line s ≡ found ns s′
-      → ((ms : List ℕ) → linesAt (suc n) m line s′ ≡ found ms rest → P m s′ ms) → P (suc m) s cs
+        → ((ms : List ℕ) → linesAt (suc n) m line s′ ≡ found ms rest → P m s′ ms) → P (suc m) s cs
     later ns s′ (fault a b) f g h ih = absurd (let z : _≡_ {A = ℕ} 0 1 = cc in omega arith)
     later ns s′ (found ms r) f g h ih =
         let p : ns ++ ms ≡ cs = cc in
         let q : r ≡ rest = cc in
         subst (P (suc m) s) p (more m n s ns s′ ms h (ih ms (f ∙ ap (found ms) q)))
+
     first : (o : Outcome) → lineAt n line s ≡ o → andThen o (λ s′. linesAt (suc n) m line s′) ≡ found cs rest
-      → ((s′ ms : List ℕ) → linesAt (suc n) m line s′ ≡ found ms rest → P m s′ ms) → P (suc m) s cs
+        → ((s′ ms : List ℕ) → linesAt (suc n) m line s′ ≡ found ms rest → P m s′ ms) → P (suc m) s cs
     first (fault a b) f g ih = absurd (let z : _≡_ {A = ℕ} 0 1 = cc in omega arith)
     first (found ns s′) f g ih = later ns s′ (linesAt (suc n) m line s′) refl g f (ih s′)

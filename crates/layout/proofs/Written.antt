@@ -66,9 +66,9 @@ found-written n line s ns rest e =
     let g = found-good n line s ns rest e in
     let t = g .text in
     let w : t ≡ list ns =
-      sym (join-parts t)
-      ∙ (ap join (sym (values-decimal (line .most) (parts t) (g .parted .each)))
-      ∙ (sym (list-join (map value (parts t))) ∙ ap list (sym (g .parted .values)))) in
+    sym (join-parts t)
+    ∙ (ap join (sym (values-decimal (line .most) (parts t) (g .parted .each)))
+    ∙ (sym (list-join (map value (parts t))) ∙ ap list (sym (g .parted .values)))) in
     g .bytes ∙ (ap (λ (x : List ℕ). (line .word ++ 61 ∷ []) ++ x ++ 10 ∷ rest) w ∙ shape (line .word) (list ns) rest)
 
 -- numbers that have at most so many digits
@@ -165,19 +165,19 @@ list-noEnd (n ∷ m ∷ ns) =
 
 -- a line of allowed numbers, as many as must be, is found
 pub written-found : (at : ℕ) (line : Line) (n : ℕ) (ns rest : List ℕ) → all isLetter (line .word) ≡ true → length (n ∷ ns) ≡ line .count → Fit (line .most) (n ∷ ns)
-  → all (line .allowed) (n ∷ ns) ≡ true → lineAt at line (lineOf line (n ∷ ns) ++ rest) ≡ found (n ∷ ns) rest
+    → all (line .allowed) (n ∷ ns) ≡ true → lineAt at line (lineOf line (n ∷ ns) ++ rest) ≡ found (n ∷ ns) rest
 unfolding lineAt form
 written-found at line n ns rest w c f a =
     let text = (line .word ++ 61 ∷ []) ++ list (n ∷ ns) in
     let quiet : noEnd text ≡ true =
-      all-append (λ b. not (eqb b 10)) (line .word ++ 61 ∷ []) (list (n ∷ ns))
-      ∙ rw (all-append (λ b. not (eqb b 10)) (line .word) (61 ∷ []), letters-noEnd (line .word) w) (list-noEnd (n ∷ ns)) in
+    all-append (λ b. not (eqb b 10)) (line .word ++ 61 ∷ []) (list (n ∷ ns))
+    ∙ rw (all-append (λ b. not (eqb b 10)) (line .word) (61 ∷ []), letters-noEnd (line .word) w) (list-noEnd (n ∷ ns)) in
     ap (lineAt at line) (sym (shape (line .word) (list (n ∷ ns)) rest))
     ∙ (ap (outcome at line) (first-line text rest quiet)
     ∙ (ap (judged at line rest) (form-beginning line (line .word ++ 61 ∷ []) (list (n ∷ ns)) ∙ numbers-list line n ns c f) ∙ rw a))
 
 written-some : (at : ℕ) (line : Line) (ns rest : List ℕ) → all isLetter (line .word) ≡ true → 1 ≤ length ns → length ns ≡ line .count → Fit (line .most) ns
-  → all (line .allowed) ns ≡ true → lineAt at line (lineOf line ns ++ rest) ≡ found ns rest
+    → all (line .allowed) ns ≡ true → lineAt at line (lineOf line ns ++ rest) ≡ found ns rest
 written-some at line [] rest w l c f a = absurd (omega arith)
 written-some at line (n ∷ ns) rest w l c f a = written-found at line n ns rest w c f a
 
@@ -190,10 +190,10 @@ pub lines-written : (m n : ℕ) (line : Line) (s cs rest : List ℕ) → linesAt
 lines-written m n line s cs rest e =
     lines-induction line rest (λ m s cs. s ≡ linesOf m line cs ++ rest) refl
     (λ m n s ns s′ ms f h.
-      found-written n line s ns s′ f
-      ∙ (ap (λ (x : List ℕ). lineOf line ns ++ x) h
-      ∙ (sym (append-assoc (lineOf line ns) (linesOf m line ms) rest)
-      ∙ ap (λ (x : List ℕ). x ++ rest) (sym (one-more line m ns ms (found-count n line s ns s′ f))))))
+    found-written n line s ns s′ f
+    ∙ (ap (λ (x : List ℕ). lineOf line ns ++ x) h
+    ∙ (sym (append-assoc (lineOf line ns) (linesOf m line ms) rest)
+    ∙ ap (λ (x : List ℕ). x ++ rest) (sym (one-more line m ns ms (found-count n line s ns s′ f))))))
     m n s cs e
 
 pub lines-allowed : (m n : ℕ) (line : Line) (s cs rest : List ℕ) → linesAt n m line s ≡ found cs rest → all (line .allowed) cs ≡ true
@@ -229,7 +229,7 @@ all-take-drop test k ns h =
     (sym (all-append test (take k ns) (drop k ns)) ∙ (ap (all test) (take-append-drop k ns) ∙ h))
 
 pub written-lines : (m at : ℕ) (line : Line) (cs rest : List ℕ) → all isLetter (line .word) ≡ true → 1 ≤ line .count → length cs ≡ m * line .count → Fit (line .most) cs
-  → all (line .allowed) cs ≡ true → linesAt at m line (linesOf m line cs ++ rest) ≡ found cs rest
+    → all (line .allowed) cs ≡ true → linesAt at m line (linesOf m line cs ++ rest) ≡ found cs rest
 unfolding linesAt
 written-lines zero at line [] rest w k c f a = refl
 written-lines zero at line (n ∷ cs) rest w k c f a = absurd (omega (arith, c))
@@ -240,7 +240,7 @@ written-lines (suc m) at line cs rest w k c f a =
     let j : length ms ≡ m * line .count = length-drop (line .count) cs ∙ omega (arith, c) in
     let t = all-take-drop (line .allowed) (line .count) cs a in
     let one : lineAt at line (lineOf line ns ++ (linesOf m line ms ++ rest)) ≡ found ns (linesOf m line ms ++ rest) =
-      written-some at line ns (linesOf m line ms ++ rest) w (omega arith) l (fit-take (line .most) (line .count) cs f) (t .0) in
+    written-some at line ns (linesOf m line ms ++ rest) w (omega arith) l (fit-take (line .most) (line .count) cs f) (t .0) in
     ap (λ (x : List ℕ). andThen (lineAt at line x) (λ y. linesAt (suc at) m line y)) (append-assoc (lineOf line ns) (linesOf m line ms) rest)
     ∙ (ap (λ (o : Outcome). andThen o (λ y. linesAt (suc at) m line y)) one
     ∙ (ap (before ns) (written-lines m (suc at) line ms rest w k j (fit-drop (line .most) (line .count) cs f) (t .1))

@@ -9,6 +9,7 @@ use native.Mathlib.Numerals.{add-one}
 use lib.ListN.{length, getD, drop, drop-of-length-le}
 use lib.Dec.{leb, ltb, eqb, leb·zero}
 use borrow.Author.Tests.{eq-eqb, ne-eqb, eqb-true, eqb-false, leb-true, leb-false, le-leb, lt-leb, lt-ltb, le-ltb}
+use Rattle.refusals.specs.Limits.{maxVars, maxDegree}
 use Rattle.layout.specs.Bytes.{between}
 use Rattle.layout.specs.Number.{all}
 use Rattle.layout.specs.Line.{Outcome, fault, found, lineAt, andThen, before}
@@ -18,7 +19,7 @@ use Rattle.layout.proofs.Tests.{between-in, between-low, between-high}
 use Rattle.narrow_file.specs.declared.line.Wanted.{Wanted}
 use Rattle.narrow_file.specs.declared.line.Line.{Line}
 use Rattle.narrow_file.specs.declared.line.Line.the-variants.{Refused, Found}
-use Rattle.narrow_file.specs.Narrow.{narrow}
+use Rattle.narrow_file.specs.Narrow.{p, narrow}
 use Rattle.narrow_file.specs.Steps.{Brief, stopped, went, brief, saidLine, lineWanted}
 use Rattle.narrow_file.specs.Passes.{bare}
 use Rattle.narrow_file.proofs.Runs.{drop-here}
@@ -28,19 +29,19 @@ abbrev pub editionWanted : Wanted
 editionWanted = record { line = 1; commas = 0; digits = 10; low = 1; high = 1 }
 
 abbrev pub fieldWanted : Wanted
-fieldWanted = record { line = 2; commas = 0; digits = 10; low = 2147483647; high = 2147483647 }
+fieldWanted = record { line = 2; commas = 0; digits = 10; low = p; high = p }
 
 abbrev pub varsWanted : Wanted
-varsWanted = record { line = 3; commas = 0; digits = 10; low = 0; high = 16 }
+varsWanted = record { line = 3; commas = 0; digits = 10; low = 0; high = maxVars }
 
 abbrev pub degreeWanted : Wanted
-degreeWanted = record { line = 4; commas = 0; digits = 10; low = 1; high = 3 }
+degreeWanted = record { line = 4; commas = 0; digits = 10; low = 1; high = maxDegree }
 
 abbrev pub claimWanted : Wanted
-claimWanted = record { line = 5; commas = 0; digits = 10; low = 0; high = 2147483646 }
+claimWanted = record { line = 5; commas = 0; digits = 10; low = 0; high = p - 1 }
 
 abbrev pub roundWanted : ℕ → ℕ → Wanted
-roundWanted n degree = record { line = n; commas = degree; digits = 10; low = 0; high = 2147483646 }
+roundWanted n degree = record { line = n; commas = degree; digits = 10; low = 0; high = p - 1 }
 
 abbrev pub endWanted : ℕ → ℕ → Wanted
 endWanted n vars = record { line = n; commas = 0; digits = 10; low = vars; high = vars }
@@ -59,12 +60,12 @@ between-exact e n = go (eqb n e) refl
 between-upto : (m n : ℕ) → between 0 m n ≡ leb n m
 between-upto m n = rw (leb·zero n)
 
-between-below : (m p n : ℕ) → p ≡ suc m → between 0 m n ≡ ltb n p
-between-below m p n e = go (leb n m) refl
+between-below : (m q n : ℕ) → q ≡ suc m → between 0 m n ≡ ltb n q
+between-below m q n e = go (leb n m) refl
   where
-    go : (t : Bool) → leb n m ≡ t → between 0 m n ≡ ltb n p
-    go true h = let z = leb-true n m h in between-upto m n ∙ (h ∙ sym (lt-ltb n p (omega arith)))
-    go false h = let z = leb-false n m h in between-upto m n ∙ (h ∙ sym (le-ltb n p (omega arith)))
+    go : (t : Bool) → leb n m ≡ t → between 0 m n ≡ ltb n q
+    go true h = let z = leb-true n m h in between-upto m n ∙ (h ∙ sym (lt-ltb n q (omega arith)))
+    go false h = let z = leb-false n m h in between-upto m n ∙ (h ∙ sym (le-ltb n q (omega arith)))
 
 -- the lines of the layout, as the code asks for them
 allows : (word : List ℕ) (count most : ℕ) (f g : ℕ → Bool) → ((n : ℕ) → f n ≡ g n)
@@ -75,19 +76,19 @@ pub edition-line : lineWanted (editionLine narrow .word) editionWanted ≡ editi
 edition-line = allows _ _ _ _ _ (between-exact 1)
 
 pub field-line : lineWanted (fieldLine narrow .word) fieldWanted ≡ fieldLine narrow
-field-line = allows _ _ _ _ _ (between-exact 2147483647)
+field-line = allows _ _ _ _ _ (between-exact p)
 
 pub vars-line : lineWanted (varsLine narrow .word) varsWanted ≡ varsLine narrow
-vars-line = allows _ _ _ _ _ (between-upto 16)
+vars-line = allows _ _ _ _ _ (between-upto maxVars)
 
 pub degree-line : lineWanted (degreeLine narrow .word) degreeWanted ≡ degreeLine narrow
 degree-line = refl
 
 pub claim-line : lineWanted (claimLine narrow .word) claimWanted ≡ claimLine narrow
-claim-line = allows _ _ _ _ _ (λ n. between-below 2147483646 2147483647 n refl)
+claim-line = allows _ _ _ _ _ (λ n. between-below (p - 1) p n refl)
 
 pub round-line : (n degree : ℕ) → lineWanted (roundLine narrow degree .word) (roundWanted n degree) ≡ roundLine narrow degree
-round-line n degree = allows _ _ _ _ _ (λ m. between-below 2147483646 2147483647 m refl)
+round-line n degree = allows _ _ _ _ _ (λ m. between-below (p - 1) p m refl)
 
 pub end-line : (n vars : ℕ) → lineWanted (endLine narrow vars .word) (endWanted n vars) ≡ endLine narrow vars
 end-line n vars = allows _ _ _ _ _ (between-exact vars)

@@ -13,13 +13,13 @@ use borrow.Author.Tests.{eqb-true, eqb-false, ltb-true}
 use Rattle.refusals.specs.First.{choose}
 use Rattle.layout.specs.Bytes.{Class, digit, comma, equals, lineEnd, letter, other, classOf, isDigit, parts, widen}
 use Rattle.layout.specs.Number.{all, isNumber, plain, value, valueFrom}
-use Rattle.layout.specs.Line.{Line, Outcome, fault, found, lineAt, andThen, before}
+use Rattle.layout.specs.Line.{found, lineAt}
 use Rattle.layout.specs.Answer.{linesAt, roundLine}
 use Rattle.layout.proofs.Tests.{both, between-holds}
 use Rattle.layout.proofs.Classes.{class-digit, class-comma}
 use Rattle.layout.proofs.Numbers.{parts-some}
-use Rattle.layout.proofs.Lines.{Good, Parts, found-good}
-use Rattle.narrow_file.specs.Narrow.{narrow}
+use Rattle.layout.proofs.Lines.{found-good, lines-induction}
+use Rattle.narrow_file.specs.Narrow.{p, narrow}
 use Rattle.narrow_file.specs.Passes.{stores, carried, collect}
 
 -- the value carried over digits
@@ -97,12 +97,12 @@ round-collected n degree s ns rest e =
     let g = found-good n (roundLine narrow degree) s ns rest e in
     let t = g .text in
     let digits = numbers-digits 10 (parts t) (g .parted .each) in
-    let small : all (λ m. ltb m 2147483647) (map value (parts t)) ≡ true = rw (g .parted .values) at (g .allowed) in (
+    let small : all (λ m. ltb m p) (map value (parts t)) ≡ true = rw (g .parted .values) at (g .allowed) in (
       ap (collect 0) (g .bytes)
           ∙ (word t rest
           ∙ (collect-parts t 0 rest digits
           ∙ ap (λ (ms : List ℕ). ms ++ collect 0 rest)
-          (overs-zero (parts t) (parts-some t) ∙ (overs-values 2147483647 (parts t) (omega arith) small ∙ sym (g .parted .values))))),
+          (overs-zero (parts t) (parts-some t) ∙ (overs-values p (parts t) (omega arith) small ∙ sym (g .parted .values))))),
       ap length (g .parted .values) ∙ (length-map (parts t) value ∙ g .parted .asMany),
     )
   where
@@ -112,31 +112,12 @@ round-collected n degree s ns rest e =
 -- all rounds
 pub lines-collected : (m n degree : ℕ) (s cs rest : List ℕ) → linesAt n m (roundLine narrow degree) s ≡ found cs rest
     → (collect 0 s ≡ cs ++ collect 0 rest) × (length cs ≡ m * (degree + 1))
-unfolding linesAt
-lines-collected zero n degree s cs rest e =
-    let p : [] ≡ cs = cc in
-    let q : s ≡ rest = cc in
-    (ap (collect 0) q ∙ ap (λ (ns : List ℕ). ns ++ collect 0 rest) p, sym (ap length p) ∙ sym (zero-mul (degree + 1)))
-lines-collected (suc m) n degree s cs rest e =
-    first (lineAt n (roundLine narrow degree) s) refl e (λ s′ cs′. lines-collected m (suc n) degree s′ cs′ rest)
-  where
-    later : (ns s′ : List ℕ) (o : Outcome) → linesAt (suc n) m (roundLine narrow degree) s′ ≡ o → before ns o ≡ found cs rest
-        → (collect 0 s ≡ ns ++ collect 0 s′) × (length ns ≡ degree + 1)
-        → ((cs′ : List ℕ) → linesAt (suc n) m (roundLine narrow degree) s′ ≡ found cs′ rest → (collect 0 s′ ≡ cs′ ++ collect 0 rest) × (length cs′ ≡ m * (degree + 1)))
-        → (collect 0 s ≡ cs ++ collect 0 rest) × (length cs ≡ suc m * (degree + 1))
-    later ns s′ (fault a b) f g h ih = absurd (let z : _≡_ {A = ℕ} 0 1 = cc in omega arith)
-    later ns s′ (found ms r) f g h ih =
-        let p : ns ++ ms ≡ cs = cc in
-        let q : r ≡ rest = cc in
-        let i = ih ms (f ∙ ap (λ (x : List ℕ). found ms x) q) in (
-          h .0
-              ∙ (ap (λ (x : List ℕ). ns ++ x) (i .0)
-              ∙ (sym (append-assoc ns ms (collect 0 rest)) ∙ ap (λ (x : List ℕ). x ++ collect 0 rest) p)),
-          sym (ap length p) ∙ (length-append ns ms ∙ omega (arith, h .1, i .1)),
-        )
-
-    first : (o : Outcome) → lineAt n (roundLine narrow degree) s ≡ o → andThen o (λ s′. linesAt (suc n) m (roundLine narrow degree) s′) ≡ found cs rest
-        → ((s′ cs′ : List ℕ) → linesAt (suc n) m (roundLine narrow degree) s′ ≡ found cs′ rest → (collect 0 s′ ≡ cs′ ++ collect 0 rest) × (length cs′ ≡ m * (degree + 1)))
-        → (collect 0 s ≡ cs ++ collect 0 rest) × (length cs ≡ suc m * (degree + 1))
-    first (fault a b) f g ih = absurd (let z : _≡_ {A = ℕ} 0 1 = cc in omega arith)
-    first (found ns s′) f g ih = later ns s′ (linesAt (suc n) m (roundLine narrow degree) s′) refl g (round-collected n degree s ns s′ f) (ih s′)
+lines-collected m n degree s cs rest e =
+    lines-induction (roundLine narrow degree) rest (λ m s cs. (collect 0 s ≡ cs ++ collect 0 rest) × (length cs ≡ m * (degree + 1)))
+    (refl, sym (zero-mul (degree + 1)))
+    (λ m n s ns s′ ms f h.
+    let g = round-collected n degree s ns s′ f in (
+      g .0 ∙ (ap (λ (x : List ℕ). ns ++ x) (h .0) ∙ sym (append-assoc ns ms (collect 0 rest))),
+      length-append ns ms ∙ omega (arith, g .1, h .1),
+    ))
+    m n s cs e

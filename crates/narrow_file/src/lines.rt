@@ -2,6 +2,7 @@
 ghost use mathlib.Core.Path.{_≡_};
 ghost use Prim.Native.Nat.{_+_, _*_, _≤_};
 ghost use lib.ListN.{take, drop};
+ghost use Rattle.refusals.specs.Limits.{maxVars};
 ghost use Rattle.layout.specs.Answer.{answer, fromEdition, fromField, fromVars, fromDegree, fromClaim, fromRounds, fromEnd, linesAt, roundLine};
 ghost use Rattle.narrow_file.specs.Narrow.{narrow};
 ghost use Rattle.narrow_file.specs.Steps.{saidLine};
@@ -24,16 +25,21 @@ pub enum Judged {
     },
 }
 
-// The edition, the modulus, and the most digits of a number.
+// The edition.
 const EDITION: u64 = 1;
 
+// The modulus.
 const P: u64 = 2147483647;
 
+// The greatest element.
+const LAST: u64 = P - 1;
+
+// The most digits of a number.
 const DIGITS: u32 = 10;
 
 // The `end` line, and nothing after it.
 fn from_end(bytes: &[u8], at: usize, vars: u32, degree: u32, claim: u32, rounds: usize) -> Judged
-    requires { ⌜ vars ≤ 16 ⌝ }
+    requires { ⌜ vars ≤ maxVars ⌝ }
     ensures { λ r. ⌜ saidJudged (now (bytes .entry)) r ≡ fromEnd narrow vars degree claim (take (vars * (degree + 1)) (collect 0 (drop rounds (now (bytes .entry))))) (drop at (now (bytes .entry))) ⌝ }
 {
     let wanted = Wanted {
@@ -66,7 +72,7 @@ fn from_end(bytes: &[u8], at: usize, vars: u32, degree: u32, claim: u32, rounds:
 
 // The rounds, each on a line of its own: where the line after them starts.
 fn rounds_at(bytes: &[u8], at: usize, vars: u32, degree: u32) -> Line
-    requires { ⌜ vars ≤ 16 ⌝ }
+    requires { ⌜ vars ≤ maxVars ⌝ }
     ensures { λ r. ⌜ saidLine (now (bytes .entry)) r ≡ bare (linesAt 6 vars (roundLine narrow degree) (drop at (now (bytes .entry)))) ⌝ }
 {
     let mut place = at;
@@ -77,7 +83,7 @@ fn rounds_at(bytes: &[u8], at: usize, vars: u32, degree: u32) -> Line
             commas: degree,
             digits: DIGITS,
             low: 0,
-            high: P - 1,
+            high: LAST,
         };
         let found = line::line_at(bytes, place, b"round", wanted);
         match found {
@@ -98,7 +104,7 @@ fn rounds_at(bytes: &[u8], at: usize, vars: u32, degree: u32) -> Line
 
 // From the first round on.
 fn from_rounds(bytes: &[u8], at: usize, vars: u32, degree: u32, claim: u32) -> Judged
-    requires { ⌜ vars ≤ 16 ⌝ }
+    requires { ⌜ vars ≤ maxVars ⌝ }
     ensures { λ r. ⌜ saidJudged (now (bytes .entry)) r ≡ fromRounds narrow vars degree claim (drop at (now (bytes .entry))) ⌝ }
 {
     let found = rounds_at(bytes, at, vars, degree);
@@ -110,7 +116,7 @@ fn from_rounds(bytes: &[u8], at: usize, vars: u32, degree: u32, claim: u32) -> J
 
 // From the `claim` line on.
 fn from_claim(bytes: &[u8], at: usize, vars: u32, degree: u32) -> Judged
-    requires { ⌜ vars ≤ 16 ⌝ }
+    requires { ⌜ vars ≤ maxVars ⌝ }
     ensures { λ r. ⌜ saidJudged (now (bytes .entry)) r ≡ fromClaim narrow vars degree (drop at (now (bytes .entry))) ⌝ }
 {
     let wanted = Wanted {
@@ -118,7 +124,7 @@ fn from_claim(bytes: &[u8], at: usize, vars: u32, degree: u32) -> Judged
         commas: 0,
         digits: DIGITS,
         low: 0,
-        high: P - 1,
+        high: LAST,
     };
     let found = line::line_at(bytes, at, b"claim", wanted);
     match found {
@@ -129,7 +135,7 @@ fn from_claim(bytes: &[u8], at: usize, vars: u32, degree: u32) -> Judged
 
 // From the `degree` line on.
 fn from_degree(bytes: &[u8], at: usize, vars: u32) -> Judged
-    requires { ⌜ vars ≤ 16 ⌝ }
+    requires { ⌜ vars ≤ maxVars ⌝ }
     ensures { λ r. ⌜ saidJudged (now (bytes .entry)) r ≡ fromDegree narrow vars (drop at (now (bytes .entry))) ⌝ }
 {
     let wanted = Wanted {

@@ -15,9 +15,6 @@ use Rattle.narrow_file.proofs.lines.from_claim.Lts as lts
 use Rattle.narrow_file.proofs.line.line_at.Reads as line-at-reads
 use Rattle.narrow_file.proofs.lines.from_rounds.Reads as from-rounds-reads
 
-sub-t12 : tie.Need-sub-t12
-sub-t12 c = search needs
-
 slice-aggregate-line-at : tie.Need-slice-aggregate-line-at
 slice-aggregate-line-at c = search needs
 
@@ -54,7 +51,6 @@ pub from-claim-spec : {M : Type 1} → statement M
 from-claim-spec =
     tie.close
     (tie.spec
-    sub-t12
     slice-aggregate-line-at
     line-at-requires
     enum-known-found

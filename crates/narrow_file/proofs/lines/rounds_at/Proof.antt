@@ -29,9 +29,6 @@ loop-holds c = (omega arith, simp sub-zero)
 add-t14 : tie.Need-add-t14 Inv-loop μ-loop
 add-t14 c = omega arith
 
-sub-t15 : tie.Need-sub-t15 Inv-loop μ-loop
-sub-t15 c = omega arith
-
 slice-aggregate-line-at : tie.Need-slice-aggregate-line-at Inv-loop μ-loop
 slice-aggregate-line-at c = search needs
 
@@ -80,7 +77,6 @@ rounds-at-spec =
     μ-loop
     loop-holds
     add-t14
-    sub-t15
     slice-aggregate-line-at
     line-at-requires
     enum-known-found
