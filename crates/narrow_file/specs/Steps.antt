@@ -123,6 +123,10 @@ closedOf wanted (Word letters) rest = stopped 10 (wanted .line)
 closedOf wanted (Numbers n) rest = closedNumber wanted n rest
 closedOf wanted Bad rest = stopped 10 (wanted .line)
 
+-- no line end is left: 11 where nothing is, 10 where bytes are
+unfoldable pub unendedOf : ℕ → ℕ → ℕ → Brief
+unendedOf size at line = choose (leb size at) (stopped 11 line) (stopped 10 line)
+
 -- what the machine comes to on bytes
 abbrev pub runOf : Wanted → List ℕ → State → List ℕ → Brief
 runOf wanted word state [] = stopped 10 (wanted .line)

@@ -3,11 +3,11 @@ ghost use mathlib.Core.Path.{_≡_};
 ghost use mathlib.Core.Bool.{true};
 ghost use mathlib.Core.List.{List};
 ghost use Prim.Native.Nat.{ℕ, _≤_, _<_};
-ghost use lib.ListN.{drop};
+ghost use lib.ListN.{length, drop};
 ghost use Rattle.layout.specs.Bytes.{classOf, isLetter};
 ghost use Rattle.layout.specs.Number.{all};
 ghost use Rattle.layout.specs.Line.{lineAt};
-ghost use Rattle.narrow_file.specs.Steps.{meant, isEnd, cap, moreOf, stillOf, withDigit, withComma, withLetter, opened, inWord, inNumbers, stepOf, closedNumber, closedOf, saidLine, brief, lineWanted};
+ghost use Rattle.narrow_file.specs.Steps.{meant, isEnd, cap, moreOf, stillOf, withDigit, withComma, withLetter, opened, inWord, inNumbers, stepOf, closedNumber, closedOf, unendedOf, saidLine, brief, lineWanted};
 
 // The class of a byte.
 pub enum Class {
@@ -260,17 +260,22 @@ fn closed(state: State, wanted: Wanted, next: usize) -> Line
     }
 }
 
+// No line end is left: either nothing is, or bytes that are no line.
+fn unended(bytes: &[u8], at: usize, line: u32) -> Line
+    ensures { λ r. ⌜ ((all : List ℕ) → saidLine all r ≡ unendedOf (length (now (bytes .entry))) at line) ⌝ }
+{
+    if bytes.len() <= at {
+        Line::Refused { number: 11, line }
+    } else {
+        Line::Refused { number: 10, line }
+    }
+}
+
 // Reads the line that starts at a place.
 pub(crate) fn line_at(bytes: &[u8], at: usize, word: &[u8], wanted: Wanted) -> Line
     requires { ⌜ (all isLetter (now word) ≡ true) × (wanted .high < cap) ⌝ }
     ensures { λ r. ⌜ saidLine (now (bytes .entry)) r ≡ brief (lineAt (wanted .line) (lineWanted (now (word .entry)) wanted) (drop at (now (bytes .entry)))) ⌝ }
 {
-    if bytes.len() <= at {
-        return Line::Refused {
-            number: 11,
-            line: wanted.line,
-        };
-    }
     let mut state = State::Word(0);
     let mut i = at;
     while i < bytes.len() {
@@ -282,8 +287,5 @@ pub(crate) fn line_at(bytes: &[u8], at: usize, word: &[u8], wanted: Wanted) -> L
         }
         state = step(state, word, wanted, class, b);
     }
-    Line::Refused {
-        number: 10,
-        line: wanted.line,
-    }
+    unended(bytes, at, wanted.line)
 }

@@ -51,7 +51,7 @@ fn from_end(bytes: &[u8], at: usize, vars: u32, degree: u32, claim: u32, rounds:
     };
     let found = line::line_at(bytes, at, b"end", wanted);
     match found {
-        Line::Refused { number, line } => Judged::Refused { number, line },
+        Line::Refused { number, line } => Judged::Refused { number, line }, // nothing is written yet
         Line::Found { last: _, next } => {
             if next < bytes.len() {
                 Judged::Refused {
