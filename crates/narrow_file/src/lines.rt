@@ -42,8 +42,10 @@ fn from_end(bytes: &[u8], at: usize, vars: u32, degree: u32, claim: u32, rounds:
     requires { ⌜ vars ≤ maxVars ⌝ }
     ensures { λ r. ⌜ saidJudged (now (bytes .entry)) r ≡ fromEnd narrow vars degree claim (take (vars * (degree + 1)) (collect 0 (drop rounds (now (bytes .entry))))) (drop at (now (bytes .entry))) ⌝ }
 {
+    let end = vars + 6;
+    let after = vars + 7;
     let wanted = Wanted {
-        line: vars + 6,
+        line: end,
         commas: 0,
         digits: DIGITS,
         low: vars as u64,
@@ -56,7 +58,7 @@ fn from_end(bytes: &[u8], at: usize, vars: u32, degree: u32, claim: u32, rounds:
             if next < bytes.len() {
                 Judged::Refused {
                     number: 13,
-                    line: vars + 7,
+                    line: after,
                 }
             } else {
                 Judged::File {
@@ -78,8 +80,9 @@ fn rounds_at(bytes: &[u8], at: usize, vars: u32, degree: u32) -> Line
     let mut place = at;
     let mut j: u32 = 0;
     while j < vars {
+        let round = j + 6;
         let wanted = Wanted {
-            line: j + 6,
+            line: round,
             commas: degree,
             digits: DIGITS,
             low: 0,

@@ -10,8 +10,11 @@ use Rattle.narrow_file.proofs.lines.from_end.Reads as reads
 use Rattle.narrow_file.proofs.lines.from_end.Lts as lts
 use Rattle.narrow_file.proofs.line.line_at.Reads as line-at-reads
 
-add-t13 : tie.Need-add-t13
-add-t13 c = search needs
+add-end : tie.Need-add-end
+add-end c = search needs
+
+add-after : tie.Need-add-after
+add-after c = search needs
 
 slice-aggregate-line-at : tie.Need-slice-aggregate-line-at
 slice-aggregate-line-at c = search needs
@@ -24,9 +27,6 @@ enum-known-found c = search needs
 
 enum-known-found-2 : tie.Need-enum-known-found-2
 enum-known-found-2 c = search needs
-
-add-t22 : tie.Need-add-t22
-add-t22 c = search needs
 
 returns : tie.Need-returns
 unfolding fromEnd
@@ -48,12 +48,12 @@ pub from-end-spec : {M : Type 1} → statement M
 from-end-spec =
     tie.close
     (tie.spec
-    add-t13
+    add-end
+    add-after
     slice-aggregate-line-at
     line-at-requires
     enum-known-found
     enum-known-found-2
-    add-t22
     returns
     returns-2
     returns-3)

@@ -26,8 +26,8 @@ abbrev μ-loop : tie.MeasureT-loop
 loop-holds : tie.Need-loop-holds Inv-loop μ-loop
 loop-holds c = (omega arith, simp sub-zero)
 
-add-t14 : tie.Need-add-t14 Inv-loop μ-loop
-add-t14 c = omega arith
+add-round : tie.Need-add-round Inv-loop μ-loop
+add-round c = omega arith
 
 slice-aggregate-line-at : tie.Need-slice-aggregate-line-at Inv-loop μ-loop
 slice-aggregate-line-at c = search needs
@@ -76,7 +76,7 @@ rounds-at-spec =
     Inv-loop
     μ-loop
     loop-holds
-    add-t14
+    add-round
     slice-aggregate-line-at
     line-at-requires
     enum-known-found
