@@ -16,7 +16,7 @@ use Rattle.narrow_file.specs.declared.line.Wanted.{Wanted}
 use Rattle.narrow_file.specs.declared.line.State.{State}
 use Rattle.narrow_file.specs.declared.line.State.the-variants.{Word}
 use Rattle.narrow_file.specs.Steps.{cap, stepOf, closedOf, runOf, Brief, stopped, brief, lineWanted, unendedOf}
-use Rattle.narrow_file.proofs.Machine.{run-line}
+use Rattle.narrow_file.proofs.Words.{run-line}
 
 -- a place within a list: what stands there, and the rest after it
 pub drop-here : (xs : List ℕ) (i : ℕ) → i < length xs → drop i xs ≡ getD xs i 0 ∷ drop (i + 1) xs
