@@ -1,8 +1,8 @@
 -- A list of bytes that is answered as a file, line by line: what was found in each line. Assumes nothing.
 use mathlib.Core.Path.{_≡_, refl, sym, ap, subst, _∙_}
 use mathlib.Core.Bool.{Bool, true, false}
-use mathlib.Core.List.{List, [], _∷_, _++_, map}
-use Prim.Native.Nat.{ℕ, zero, suc, _+_, _*_, _≤_}
+use mathlib.Core.List.{List, [], _∷_}
+use Prim.Native.Nat.{ℕ, _+_, _*_, _≤_}
 use native.Mathlib.Nat.{zero-mul}
 use native.Mathlib.Omega.{arith}
 use lib.ListN.{length, length-append, length-map}
@@ -11,7 +11,7 @@ use borrow.Author.Tests.{ltb-false}
 use Rattle.refusals.specs.First.{choose}
 use Rattle.layout.specs.Bytes.{parts}
 use Rattle.layout.specs.Number.{value}
-use Rattle.layout.specs.Line.{Line, Outcome, fault, found, lineAt, andThen, before}
+use Rattle.layout.specs.Line.{Line, Outcome, fault, found, lineAt}
 use Rattle.layout.specs.Answer.{Layout, Answer, file, refused, answer, answerThen, only, linesAt, editionLine, fieldLine, varsLine, degreeLine, claimLine, roundLine, endLine, fromAfter, fromEnd, fromRounds, fromClaim, fromDegree, fromVars, fromField, fromEdition}
 use Rattle.layout.proofs.Lines.{found-good, lines-induction}
 

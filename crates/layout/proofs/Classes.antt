@@ -1,12 +1,12 @@
 -- The class of a byte and what it stands for: a byte of a class is one of its bytes, and the other way round. Assumes nothing.
-use mathlib.Core.Path.{_≡_, refl, sym, ap, subst, _∙_}
-use mathlib.Core.Bool.{Bool, true, false, _&&_}
+use mathlib.Core.Path.{_≡_, refl, sym, subst}
+use mathlib.Core.Bool.{Bool, true, false}
 use Prim.Native.Nat.{ℕ, _≤_, _<_}
 use native.Mathlib.Omega.{arith}
-use lib.Dec.{leb, ltb, eqb}
+use lib.Dec.{eqb}
 use borrow.Author.Tests.{ne-eqb, eqb-true, eqb-false}
 use Rattle.layout.specs.Bytes.{Class, digit, comma, equals, lineEnd, letter, other, isDigit, isLetter, classOf}
-use Rattle.layout.proofs.Tests.{between-in, between-low, between-high, between-holds}
+use Rattle.layout.proofs.Tests.{between-in, between-high, between-holds}
 
 pub class-digit : (b : ℕ) → 48 ≤ b → b < 58 → classOf b ≡ digit
 unfolding classOf

@@ -1,13 +1,13 @@
 -- Numbers and their digits: the digits of n are a number of value n, and a number is the digits of its value. One digit more is ten times
 -- the value and the digit (`decimal-more`); the rest follows digit by digit. Assumes nothing.
 use mathlib.Core.Path.{_≡_, refl, sym, ap, ap₂, subst, _∙_}
-use mathlib.Core.Bool.{Bool, true, false, _&&_, not}
+use mathlib.Core.Bool.{Bool, true, false, _&&_}
 use mathlib.Core.List.{List, [], _∷_, _++_, append-nil, append-assoc}
 use Prim.Native.Nat.{ℕ, zero, suc, _+_, _-_, _*_, _/_, _%_, _≤_, _<_}
 use native.Mathlib.Omega.{arith}
-use lib.ListN.{length, length-append}
+use lib.ListN.{length}
 use lib.Dec.{eqb, ltb}
-use borrow.Author.Tests.{ne-eqb, eqb-true, eqb-false, lt-ltb, le-ltb, ltb-true, ltb-false, not-true}
+use borrow.Author.Tests.{eqb-false, lt-ltb, le-ltb, ltb-true, ltb-false, not-true}
 use Rattle.layout.specs.Bytes.{between, isDigit}
 use Rattle.layout.specs.Number.{all, plain, isNumber, value, valueFrom, digits, decimal}
 use Rattle.layout.proofs.Tests.{between-in, between-holds, both}

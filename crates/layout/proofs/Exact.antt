@@ -1,19 +1,19 @@
 -- Exactly the files of well-formed parts are answered as files (`Exactly`), and a list of bytes is the file of one set of parts only
 -- (`OneContent`). Line by line, what is found is what is written. Assumes nothing.
-use mathlib.Core.Path.{_≡_, refl, sym, ap, ap₂, subst, _∙_}
-use mathlib.Core.Bool.{Bool, true, false, _&&_}
+use mathlib.Core.Path.{_≡_, refl, sym, ap, subst, _∙_}
+use mathlib.Core.Bool.{true}
 use mathlib.Core.List.{List, [], _∷_, _++_, append-nil}
-use Prim.Native.Nat.{ℕ, suc, _+_, _*_, _≤_, _<_}
+use Prim.Native.Nat.{ℕ, _+_, _≤_}
 use native.Mathlib.Omega.{arith}
 use lib.ListN.{length}
-use lib.Dec.{eqb, leb, ltb}
+use lib.Dec.{leb, ltb}
 use borrow.Author.Tests.{eqb-true, leb-true, ltb-true, eq-eqb, le-leb, lt-ltb, le-ltb}
 use Rattle.layout.specs.Number.{all, decimal}
 use Rattle.layout.specs.Line.{Line, found, lineAt}
-use Rattle.layout.specs.Answer.{Layout, Answer, file, refused, answer, answerThen, only, linesAt, editionLine, fieldLine, varsLine, degreeLine, claimLine, roundLine, endLine, fromAfter, fromEnd, fromRounds, fromClaim, fromDegree, fromVars, fromField, fromEdition}
+use Rattle.layout.specs.Answer.{Layout, file, answer, only, editionLine, fieldLine, varsLine, degreeLine, claimLine, roundLine, endLine, fromEnd, fromRounds, fromClaim, fromDegree, fromVars, fromField, fromEdition}
 use Rattle.layout.specs.File.{lineOf, linesOf, fileOf, Elements, WellFormed, Exactly, OneContent}
 use Rattle.layout.proofs.Tests.{both, between-holds, between-in}
-use Rattle.layout.proofs.Answers.{At, Whole, whole, found-count, lines-count}
+use Rattle.layout.proofs.Answers.{Whole, whole, found-count, lines-count}
 use Rattle.layout.proofs.Written.{Fit, found-written, found-fit, found-allowed, written-found, lines-written, lines-allowed, lines-fit, written-lines}
 
 -- a line with one number: that number, its test, its digits, and the line's bytes

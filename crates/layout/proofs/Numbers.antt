@@ -1,16 +1,14 @@
 -- When bytes are a number and when not, the value with a digit more, and that a text has a first part. Assumes nothing.
-use mathlib.Core.Path.{_≡_, refl, sym, ap, _∙_}
-use mathlib.Core.Bool.{Bool, true, false, _&&_, not, and-false, and-assoc}
+use mathlib.Core.Path.{_≡_, refl, sym}
+use mathlib.Core.Bool.{Bool, true, false, _&&_, and-false, and-assoc}
 use mathlib.Core.List.{List, [], _∷_, _++_}
-use Prim.Native.Nat.{ℕ, zero, suc, _+_, _-_, _*_, _≤_, _<_}
-use native.Mathlib.Omega.{arith}
-use lib.ListN.{length, length-append}
-use lib.Dec.{eqb, leb}
-use borrow.Author.Tests.{ne-eqb, eq-eqb}
-use Rattle.refusals.specs.First.{choose}
-use Rattle.layout.specs.Bytes.{between, isDigit, parts, widen}
-use Rattle.layout.specs.Number.{all, plain, isNumber, value, valueFrom}
-use Rattle.layout.proofs.Tests.{between-in, between-low, between-high}
+use Prim.Native.Nat.{ℕ, _+_, _-_, _*_, _≤_, _<_}
+use lib.ListN.{length}
+use lib.Dec.{eqb}
+use borrow.Author.Tests.{ne-eqb}
+use Rattle.layout.specs.Bytes.{between, isDigit, parts}
+use Rattle.layout.specs.Number.{all, plain, isNumber, valueFrom}
+use Rattle.layout.proofs.Tests.{between-in, between-high}
 
 pub and-right : (s t : Bool) → t ≡ false → (s && t) ≡ false
 and-right s t e = rw e (and-false s)

@@ -1,19 +1,17 @@
 -- Lines found and lines written are the same: a line that is found is `lineOf` of its numbers, and `lineOf` of allowed numbers is found.
 -- Between commas stand the parts, and joined by commas they are the text again. Assumes nothing.
 use mathlib.Core.Path.{_≡_, refl, sym, ap, ap₂, subst, _∙_}
-use mathlib.Core.Bool.{Bool, true, false, _&&_, not}
-use mathlib.Core.List.{List, [], _∷_, _++_, map, append-nil, append-assoc}
-use Prim.Native.Nat.{ℕ, zero, suc, _+_, _*_, _≤_, _<_}
-use native.Mathlib.Nat.{suc-mul}
+use mathlib.Core.Bool.{Bool, true, false, not}
+use mathlib.Core.List.{List, [], _∷_, _++_, map, append-assoc}
+use Prim.Native.Nat.{ℕ, zero, suc, _*_, _≤_}
 use native.Mathlib.Omega.{arith}
-use lib.ListN.{length, take, drop, length-append, length-map, length-take, length-drop, take-append-drop}
+use lib.ListN.{length, take, drop, length-map, length-drop, take-append-drop}
 use lib.Seq.{take-at, drop-at, length-take-le}
 use lib.Dec.{eqb}
 use borrow.Author.Tests.{eq-eqb, ne-eqb, eqb-true, not-true}
-use Rattle.refusals.specs.First.{choose}
-use Rattle.layout.specs.Bytes.{Cut, ended, unended, longer, firstLine, parts, widen, isDigit, isLetter}
+use Rattle.layout.specs.Bytes.{ended, longer, firstLine, parts, widen, isDigit, isLetter}
 use Rattle.layout.specs.Number.{all, isNumber, value, decimal}
-use Rattle.layout.specs.Line.{Line, Form, formless, numbers, numbersOf, formAfter, form, Outcome, fault, found, judged, outcome, lineAt, andThen, before}
+use Rattle.layout.specs.Line.{Line, numbers, numbersOf, formAfter, form, Outcome, found, judged, outcome, lineAt, andThen, before}
 use Rattle.layout.specs.Answer.{linesAt}
 use Rattle.layout.specs.File.{list, lineOf, linesOf}
 use Rattle.layout.proofs.Tests.{both, between-holds}

@@ -1,6 +1,5 @@
 -- The answer for every list of bytes (document 01, "Proof file"): "The reader checks 9 first, then lines in order, in each line 11, 10, 12;
 -- after `end` 13". Refusal 4 is about the list that a caller lends, and stands with the reader.
-use mathlib.Core.Bool.{Bool, true, false, _&&_}
 use mathlib.Core.List.{List, [], _∷_}
 use Prim.Native.Nat.{ℕ, zero, suc, _+_}
 use lib.ListN.{length}

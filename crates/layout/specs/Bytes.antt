@@ -1,5 +1,5 @@
 -- Bytes (document 01, "Proof file"): the class of a byte, the first line of a list of bytes, and the parts between commas.
-use mathlib.Core.Bool.{Bool, true, false, _&&_}
+use mathlib.Core.Bool.{Bool, _&&_}
 use mathlib.Core.List.{List, [], _∷_}
 use Prim.Native.Nat.{ℕ}
 use lib.Dec.{leb, eqb}

@@ -1,13 +1,12 @@
 -- The bytes of a proof file, built from its parts, and the statement that exactly these lists of bytes are answered as files.
 use mathlib.Core.Path.{_≡_}
-use mathlib.Core.Bool.{Bool, true, false}
 use mathlib.Core.List.{List, [], _∷_, _++_}
 use mathlib.Core.Logic.{_↔_}
-use Prim.Native.Nat.{ℕ, zero, suc, _+_, _*_, _≤_, _<_}
+use Prim.Native.Nat.{ℕ, zero, suc, _*_, _≤_, _<_}
 use lib.ListN.{length, take, drop}
-use Rattle.layout.specs.Number.{all, decimal}
+use Rattle.layout.specs.Number.{decimal}
 use Rattle.layout.specs.Line.{Line}
-use Rattle.layout.specs.Answer.{Layout, Answer, file, answer, editionLine, fieldLine, varsLine, degreeLine, claimLine, roundLine, endLine}
+use Rattle.layout.specs.Answer.{Layout, file, answer, editionLine, fieldLine, varsLine, degreeLine, claimLine, roundLine, endLine}
 
 -- numbers in decimal digits, parted by commas
 abbrev pub list : List ℕ → List ℕ

@@ -1,5 +1,5 @@
 -- One line of a proof file (document 01, "Proof file"): what it must be, and what is found where it is expected, "in each line 11, 10, 12".
-use mathlib.Core.Bool.{Bool, true, false, _&&_}
+use mathlib.Core.Bool.{Bool, _&&_}
 use mathlib.Core.List.{List, [], _∷_, _++_, map}
 use Prim.Native.Nat.{ℕ}
 use lib.ListN.{length}

@@ -1,17 +1,16 @@
 -- From line to line: the lines that the code wants are the layout's, what a line's answer says of the answer that goes on from it, and the
 -- rounds one by one. Assumes nothing.
-use mathlib.Core.Path.{_≡_, refl, sym, ap, subst, fun-ext, _∙_}
-use mathlib.Core.Bool.{Bool, true, false, _&&_}
-use mathlib.Core.List.{List, [], _∷_, _++_}
-use Prim.Native.Nat.{ℕ, zero, suc, _+_, _-_, _*_, _≤_, _<_}
+use mathlib.Core.Path.{_≡_, refl, sym, ap, fun-ext, _∙_}
+use mathlib.Core.Bool.{Bool, true, false}
+use mathlib.Core.List.{List}
+use Prim.Native.Nat.{ℕ, suc, _+_, _-_, _≤_, _<_}
 use native.Mathlib.Omega.{arith}
 use native.Mathlib.Numerals.{add-one}
-use lib.ListN.{length, getD, drop, drop-of-length-le}
+use lib.ListN.{length, drop, drop-of-length-le}
 use lib.Dec.{leb, ltb, eqb, leb·zero}
-use borrow.Author.Tests.{eq-eqb, ne-eqb, eqb-true, eqb-false, leb-true, leb-false, le-leb, lt-leb, lt-ltb, le-ltb}
+use borrow.Author.Tests.{eqb-true, eqb-false, leb-true, leb-false, lt-ltb, le-ltb}
 use Rattle.refusals.specs.Limits.{maxVars, maxDegree}
 use Rattle.layout.specs.Bytes.{between}
-use Rattle.layout.specs.Number.{all}
 use Rattle.layout.specs.Line.{Outcome, fault, found, lineAt, andThen, before}
 use Rattle.layout.specs.Line as layout
 use Rattle.layout.specs.Answer.{Answer, file, refused, answerThen, only, linesAt, fromAfter, fromEnd, editionLine, fieldLine, varsLine, degreeLine, claimLine, roundLine, endLine}
@@ -20,7 +19,7 @@ use Rattle.narrow_file.specs.declared.line.Wanted.{Wanted}
 use Rattle.narrow_file.specs.declared.line.Line.{Line}
 use Rattle.narrow_file.specs.declared.line.Line.the-variants.{Refused, Found}
 use Rattle.narrow_file.specs.Narrow.{p, narrow}
-use Rattle.narrow_file.specs.Steps.{Brief, stopped, went, brief, saidLine, lineWanted}
+use Rattle.narrow_file.specs.Steps.{stopped, went, brief, saidLine, lineWanted}
 use Rattle.narrow_file.specs.Passes.{bare}
 use Rattle.narrow_file.proofs.Runs.{drop-here}
 

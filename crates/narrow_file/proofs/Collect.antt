@@ -1,18 +1,16 @@
 -- The numbers that the second pass takes out of the rounds are those that the first pass found there. Over the parts between commas the
 -- second pass carries a value modulo 2^32, which is the part's value for every number below 2^32. Assumes nothing.
-use mathlib.Core.Path.{_≡_, refl, sym, ap, ap₂, subst, _∙_}
+use mathlib.Core.Path.{_≡_, refl, sym, ap, ap₂, _∙_}
 use mathlib.Core.Bool.{Bool, true, false, _&&_}
 use mathlib.Core.List.{List, [], _∷_, _++_, map, append-assoc}
-use Prim.Native.Nat.{ℕ, zero, suc, _+_, _-_, _*_, _/_, _%_, _^_, _≤_, _<_}
+use Prim.Native.Nat.{ℕ, _+_, _-_, _*_, _/_, _%_, _^_, _≤_}
 use native.Mathlib.Nat.{mod-eq-of-lt, zero-mul, add-mul-mod-self-right, div-add-mod'}
 use native.Mathlib.Omega.{arith}
-use lib.ListN.{length, take, drop, length-append, length-map}
-use lib.Seq.{take-at}
+use lib.ListN.{length, length-append, length-map}
 use lib.Dec.{eqb, ltb}
-use borrow.Author.Tests.{eqb-true, eqb-false, ltb-true}
-use Rattle.refusals.specs.First.{choose}
-use Rattle.layout.specs.Bytes.{Class, digit, comma, equals, lineEnd, letter, other, classOf, isDigit, parts, widen}
-use Rattle.layout.specs.Number.{all, isNumber, plain, value, valueFrom}
+use borrow.Author.Tests.{eqb-true, ltb-true}
+use Rattle.layout.specs.Bytes.{classOf, isDigit, parts, widen}
+use Rattle.layout.specs.Number.{all, isNumber, value, valueFrom}
 use Rattle.layout.specs.Line.{found, lineAt}
 use Rattle.layout.specs.Answer.{linesAt, roundLine}
 use Rattle.layout.proofs.Tests.{both, between-holds}
@@ -20,7 +18,7 @@ use Rattle.layout.proofs.Classes.{class-digit, class-comma}
 use Rattle.layout.proofs.Numbers.{parts-some}
 use Rattle.layout.proofs.Lines.{found-good, lines-induction}
 use Rattle.narrow_file.specs.Narrow.{p, narrow}
-use Rattle.narrow_file.specs.Passes.{stores, carried, collect}
+use Rattle.narrow_file.specs.Passes.{collect}
 
 -- the value carried over digits
 abbrev over : ℕ → List ℕ → ℕ

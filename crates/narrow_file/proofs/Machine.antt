@@ -1,30 +1,19 @@
 -- The machine that reads a line: its run over bytes is its steps over the first line, one byte after another (`ran`), and a line that is
 -- not of its form stays so. Assumes nothing.
-use mathlib.Core.Path.{_≡_, refl, sym, ap, ap₂, subst, _∙_}
-use mathlib.Core.Bool.{Bool, true, false, _&&_, and-assoc, and-true}
-use mathlib.Core.List.{List, [], _∷_, _++_, map, append-nil, append-assoc}
-use Prim.Native.Nat.{ℕ, zero, suc, _+_, _-_, _*_, min, _≤_, _<_}
+use mathlib.Core.Path.{_≡_, refl, sym, ap, _∙_}
+use mathlib.Core.Bool.{Bool, true, false}
+use mathlib.Core.List.{List, [], _∷_}
+use Prim.Native.Nat.{ℕ}
 use native.Mathlib.Omega.{arith}
-use native.Mathlib.Numerals.{add-one}
-use lib.ListN.{length, getD, drop, length-append}
-use lib.Seq.{getD-append-seam}
-use lib.Dec.{eqb, leb, eqb·suc-suc}
-use borrow.Author.Tests.{ne-eqb, eq-eqb, le-leb, lt-leb, eqb-true, eqb-false, leb-true, leb-false}
-use Rattle.refusals.specs.First.{choose}
-use Rattle.layout.specs.Bytes.{between, isDigit, isLetter, classOf, Cut, ended, unended, longer, firstLine, parts, widen}
+use lib.Dec.{eqb}
+use borrow.Author.Tests.{ne-eqb, eq-eqb}
+use Rattle.layout.specs.Bytes.{classOf, Cut, ended, unended, longer, firstLine}
 use Rattle.layout.specs.Bytes as bytes
-use Rattle.layout.specs.Number.{all, plain, isNumber, value, valueFrom}
-use Rattle.layout.specs.Line.{Form, formless, numbers, numbersOf, formAfter, form, Outcome, fault, found, judged, outcome, lineAt}
-use Rattle.layout.specs.Answer.{only}
-use Rattle.layout.proofs.Tests.{between-in, between-low, between-high, between-holds, both}
-use Rattle.layout.proofs.Classes.{means, Means, class-letter, class-digit}
-use Rattle.layout.proofs.Numbers.{number-yes, number-digits, number-long, number-plain, all-append, plain-first, valueFrom-append, parts-some, and-right}
+use Rattle.layout.proofs.Classes.{means, Means}
 use Rattle.narrow_file.specs.declared.line.Wanted.{Wanted}
-use Rattle.narrow_file.specs.declared.line.Number.{Number}
 use Rattle.narrow_file.specs.declared.line.State.{State}
-use Rattle.narrow_file.specs.declared.line.State.the-variants.{Word, Numbers, Bad}
-use Rattle.narrow_file.specs.Steps.{cap, isEnd, moreOf, stillOf, withDigit, withComma, withLetter, opened, inWord, inNumbers, stepOf, Brief, stopped, went, brief, closedNumber, closedOf, runOf, lineWanted}
-use Rattle.narrow_file.proofs.Paths.{digit-full, digit-first, digit-after-zero, digit-later, comma-empty, comma-last, comma-next, closed-empty, closed-early, closed-refused, closed-found, letter-past, letter-right, letter-wrong, open-right, open-wrong}
+use Rattle.narrow_file.specs.declared.line.State.the-variants.{Bad}
+use Rattle.narrow_file.specs.Steps.{isEnd, stepOf, Brief, stopped, closedOf, runOf}
 
 -- a byte ends a line if and only if it is byte 10
 pub end-test : (b : ℕ) → isEnd (classOf b) ≡ eqb b 10

@@ -1,16 +1,15 @@
 -- The answers of the machine's functions, one law for each path through their code: the tests on the way pick the case. Assumes nothing.
-use mathlib.Core.Path.{_≡_, refl, sym, ap, _∙_}
-use mathlib.Core.Bool.{Bool, true, false, _&&_}
-use mathlib.Core.List.{List, [], _∷_}
+use mathlib.Core.Path.{_≡_}
+use mathlib.Core.Bool.{Bool, true, false}
+use mathlib.Core.List.{List}
 use Prim.Native.Nat.{ℕ, _+_, _-_, _≤_, _<_}
 use lib.ListN.{length, getD}
 use lib.Dec.{leb}
 use borrow.Author.Tests.{le-leb, lt-leb, eq-eqb, ne-eqb}
 use Rattle.narrow_file.specs.declared.line.Wanted.{Wanted}
 use Rattle.narrow_file.specs.declared.line.Number.{Number}
-use Rattle.narrow_file.specs.declared.line.State.{State}
 use Rattle.narrow_file.specs.declared.line.State.the-variants.{Word, Numbers, Bad}
-use Rattle.narrow_file.specs.Steps.{moreOf, stillOf, withDigit, withComma, withLetter, opened, Brief, stopped, went, closedNumber}
+use Rattle.narrow_file.specs.Steps.{moreOf, stillOf, withDigit, withComma, withLetter, opened, stopped, went, closedNumber}
 
 module _ (w : Wanted) (n : Number) where
   pub still-not : n .allowed ≡ false → false ≡ stillOf w n

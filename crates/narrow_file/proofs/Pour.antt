@@ -1,6 +1,6 @@
 -- The second pass from some place on: `pour` is the lent list as it will be, given the bytes that are left, the places that are filled
 -- and the value that is carried. A byte leaves it as it is, and at the end it is the list itself. Assumes nothing.
-use mathlib.Core.Path.{_≡_, refl, sym, ap, ap₂, _∙_}
+use mathlib.Core.Path.{_≡_, sym, ap, ap₂, _∙_}
 use mathlib.Core.Bool.{Bool, true, false}
 use mathlib.Core.List.{List, [], _∷_, _++_, append-assoc}
 use Prim.Native.Nat.{ℕ, suc, _+_, _-_, _≤_, _<_}

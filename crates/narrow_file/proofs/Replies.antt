@@ -1,16 +1,16 @@
 -- The reader's reply and the lent list, from what the first pass tells: refused, too little room, or a file. Assumes nothing.
-use mathlib.Core.Path.{_≡_, refl, sym, ap, _∙_}
-use mathlib.Core.List.{List, [], _∷_, _++_}
+use mathlib.Core.Path.{_≡_, sym, ap, _∙_}
+use mathlib.Core.List.{List, _++_}
 use Prim.Native.Nat.{ℕ, _+_, _*_, _≤_, _<_}
 use lib.ListN.{length, take, drop}
 use mathlib.Core.Bool.{true, false}
 use lib.Dec.{ltb}
 use borrow.Author.Tests.{lt-ltb, le-ltb}
-use Rattle.layout.specs.Answer.{Answer, file, refused, answer}
+use Rattle.layout.specs.Answer.{file, refused, answer}
 use Rattle.layout.proofs.Answers.{file-count}
 use Rattle.narrow_file.specs.declared.lines.Judged.{Judged}
 use Rattle.narrow_file.specs.declared.lines.Judged.the-variants.{File, Refused}
-use Rattle.narrow_file.specs.Narrow.{narrow, withRoom, readAnswer, after, Head, head, no, told}
+use Rattle.narrow_file.specs.Narrow.{narrow, readAnswer, after, Head, head, no, told}
 use Rattle.narrow_file.specs.Passes.{collect, put, saidJudged}
 
 -- a reply and a list are what the answer asks for

@@ -1,22 +1,22 @@
 -- The answer from the rounds on, and that a number that is found is not above the line's greatest. Assumes nothing.
 use mathlib.Core.Path.{_≡_, refl, sym, ap, subst, _∙_}
-use mathlib.Core.Bool.{Bool, true, false, _&&_}
-use mathlib.Core.List.{List, [], _∷_, _++_}
+use mathlib.Core.Bool.{true}
+use mathlib.Core.List.{List, [], _∷_}
 use Prim.Native.Nat.{ℕ, _+_, _*_, _≤_}
 use native.Mathlib.Omega.{arith}
-use lib.ListN.{length, take, drop}
+use lib.ListN.{take, drop}
 use lib.Seq.{take-at}
 use Rattle.layout.specs.Bytes.{between}
 use Rattle.layout.specs.Number.{all}
 use Rattle.layout.specs.Line.{Outcome, fault, found, lineAt}
-use Rattle.layout.specs.Answer.{Answer, refused, answerThen, only, linesAt, roundLine, fromRounds, fromEnd}
+use Rattle.layout.specs.Answer.{refused, answerThen, only, linesAt, roundLine, fromRounds, fromEnd}
 use Rattle.layout.proofs.Tests.{both, between-holds}
 use Rattle.layout.proofs.Lines.{found-good}
 use Rattle.narrow_file.specs.declared.line.Wanted.{Wanted}
 use Rattle.narrow_file.specs.declared.line.Line.{Line}
 use Rattle.narrow_file.specs.declared.line.Line.the-variants.{Refused, Found}
 use Rattle.narrow_file.specs.Narrow.{narrow}
-use Rattle.narrow_file.specs.Steps.{Brief, stopped, went, brief, saidLine, lineWanted}
+use Rattle.narrow_file.specs.Steps.{stopped, went, brief, saidLine, lineWanted}
 use Rattle.narrow_file.specs.Passes.{bare, collect}
 use Rattle.narrow_file.proofs.Collect.{lines-collected}
 

@@ -1,8 +1,8 @@
 -- The machine's run from a place of the bytes: one byte more, a line end, the bytes' end; and a line that is missing. Assumes nothing.
 use mathlib.Core.Path.{_≡_, refl, sym, ap, _∙_}
 use mathlib.Core.Bool.{Bool, true, false}
-use mathlib.Core.List.{List, [], _∷_}
-use Prim.Native.Nat.{ℕ, suc, _+_, _≤_, _<_}
+use mathlib.Core.List.{List, _∷_}
+use Prim.Native.Nat.{ℕ, _+_, _≤_, _<_}
 use native.Mathlib.Numerals.{add-one}
 use lib.ListN.{length, getD, drop, drop-of-length-le}
 use lib.Seq.{drop-cons}
@@ -15,7 +15,7 @@ use Rattle.layout.specs.Line as layout
 use Rattle.narrow_file.specs.declared.line.Wanted.{Wanted}
 use Rattle.narrow_file.specs.declared.line.State.{State}
 use Rattle.narrow_file.specs.declared.line.State.the-variants.{Word}
-use Rattle.narrow_file.specs.Steps.{cap, stepOf, closedOf, runOf, Brief, stopped, brief, lineWanted, unendedOf}
+use Rattle.narrow_file.specs.Steps.{cap, stepOf, closedOf, runOf, stopped, brief, lineWanted, unendedOf}
 use Rattle.narrow_file.proofs.Words.{run-line}
 
 -- a place within a list: what stands there, and the rest after it

@@ -1,32 +1,29 @@
 -- The machine over a whole line comes to what the layout says of the line (`run-line`): letter by letter over the word, and from `=` on
 -- by the law of the numbers. Assumes nothing.
-use mathlib.Core.Path.{_≡_, refl, sym, ap, ap₂, subst, _∙_}
-use mathlib.Core.Bool.{Bool, true, false, _&&_, and-assoc, and-true}
+use mathlib.Core.Path.{_≡_, refl, sym, ap, _∙_}
+use mathlib.Core.Bool.{Bool, true, false, _&&_}
 use mathlib.Core.List.{List, [], _∷_, _++_, map, append-nil, append-assoc}
-use Prim.Native.Nat.{ℕ, zero, suc, _+_, _-_, _*_, min, _≤_, _<_}
+use Prim.Native.Nat.{ℕ, _+_, _<_}
 use native.Mathlib.Omega.{arith}
-use native.Mathlib.Numerals.{add-one}
-use lib.ListN.{length, getD, drop, length-append}
+use lib.ListN.{length, getD, length-append}
 use lib.Seq.{getD-append-seam}
-use lib.Dec.{eqb, leb, eqb·suc-suc}
-use borrow.Author.Tests.{ne-eqb, eq-eqb, le-leb, lt-leb, eqb-true, eqb-false, leb-true, leb-false}
+use lib.Dec.{eqb}
+use borrow.Author.Tests.{ne-eqb, eq-eqb, eqb-true, eqb-false}
 use Rattle.refusals.specs.First.{choose}
-use Rattle.layout.specs.Bytes.{between, isDigit, isLetter, classOf, Cut, ended, unended, longer, firstLine, parts, widen}
+use Rattle.layout.specs.Bytes.{between, isLetter, classOf, Cut, ended, unended, longer, firstLine, parts}
 use Rattle.layout.specs.Bytes as bytes
-use Rattle.layout.specs.Number.{all, plain, isNumber, value, valueFrom}
-use Rattle.layout.specs.Line.{Form, formless, numbers, numbersOf, formAfter, form, Outcome, fault, found, judged, outcome, lineAt}
+use Rattle.layout.specs.Number.{all, isNumber, value}
+use Rattle.layout.specs.Line.{numbersOf, formAfter, form, fault, found, judged, outcome, lineAt}
 use Rattle.layout.specs.Answer.{only}
-use Rattle.layout.proofs.Tests.{between-in, between-low, between-high, between-holds, both}
-use Rattle.layout.proofs.Classes.{means, Means, class-letter, class-digit}
-use Rattle.layout.proofs.Numbers.{number-yes, number-digits, number-long, number-plain, all-append, plain-first, valueFrom-append, parts-some, and-right}
+use Rattle.layout.proofs.Tests.{between-holds, both}
+use Rattle.layout.proofs.Classes.{means, Means, class-letter}
 use Rattle.narrow_file.specs.declared.line.Wanted.{Wanted}
-use Rattle.narrow_file.specs.declared.line.Number.{Number}
 use Rattle.narrow_file.specs.declared.line.State.{State}
-use Rattle.narrow_file.specs.declared.line.State.the-variants.{Word, Numbers, Bad}
-use Rattle.narrow_file.specs.Steps.{cap, isEnd, moreOf, stillOf, withDigit, withComma, withLetter, opened, inWord, inNumbers, stepOf, Brief, stopped, went, brief, closedNumber, closedOf, runOf, lineWanted}
-use Rattle.narrow_file.proofs.Paths.{digit-full, digit-first, digit-after-zero, digit-later, comma-empty, comma-last, comma-next, closed-empty, closed-early, closed-refused, closed-found, letter-past, letter-right, letter-wrong, open-right, open-wrong}
+use Rattle.narrow_file.specs.declared.line.State.the-variants.{Word, Bad}
+use Rattle.narrow_file.specs.Steps.{cap, inWord, stopped, went, brief, closedOf, runOf, lineWanted}
+use Rattle.narrow_file.proofs.Paths.{letter-past, letter-right, letter-wrong, open-right, open-wrong}
 use Rattle.narrow_file.proofs.Machine.{stepsOf, onCut, ran, closed-bad}
-use Rattle.narrow_file.proofs.Verdict.{onFirst, Prefix, none, first-none, verdict, Law, numbers-law}
+use Rattle.narrow_file.proofs.Verdict.{none, first-none, verdict, Law, numbers-law}
 
 module _ (w : Wanted) (word : List ℕ) where
   -- the verdict w is what the layout says of the text after `=`

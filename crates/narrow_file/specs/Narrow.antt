@@ -1,8 +1,8 @@
 -- The reader of narrow files (document 01, "Proof file"): the layout with its numbers put in, the reader's answer for every list of bytes
 -- and every lent list, and what the lent list holds after the call.
-use mathlib.Core.List.{List, [], _∷_, _++_}
+use mathlib.Core.List.{List, _++_}
 use Prim.Native.Nat.{ℕ, _+_, _*_}
-use lib.ListN.{length, drop}
+use lib.ListN.{drop}
 use lib.Dec.{ltb}
 use Rattle.refusals.specs.First.{choose}
 use Rattle.refusals.specs.Limits.{maxVars, maxDegree, maxFile}

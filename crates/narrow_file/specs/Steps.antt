@@ -1,10 +1,9 @@
 -- What the reader's inner functions promise, over the types of the code. Nothing that a caller is promised rests on this file.
-use mathlib.Core.Path.{_≡_}
 use mathlib.Core.Bool.{Bool, true, false, _&&_}
-use mathlib.Core.List.{List, [], _∷_, _++_}
-use Prim.Native.Nat.{ℕ, _+_, _-_, _*_, min, _≤_}
+use mathlib.Core.List.{List, [], _∷_}
+use Prim.Native.Nat.{ℕ, _+_, _-_, _*_, min}
 use lib.ListN.{length, getD, drop}
-use lib.Dec.{leb, ltb, eqb}
+use lib.Dec.{leb, eqb}
 use Rattle.refusals.specs.First.{choose}
 use Rattle.layout.specs.Bytes.{between, classOf}
 use Rattle.layout.specs.Bytes as bytes

@@ -3,9 +3,6 @@ use Prim.Native.Nat.{_-_, _≤_}
 use native.Mathlib.Omega.{arith}
 use Rattle.file_cases.proofs.changes.Statement.{statement}
 use Rattle.file_cases.proofs.changes.Tie as tie
-use Rattle.file_cases.proofs.changes.Reads as reads
-use Rattle.file_cases.proofs.changes.Lts as lts
-use Rattle.file_cases.proofs.changes_at.Reads as changes-at-reads
 
 abbrev Inv-loop : tie.InvT-loop
 Inv-loop place₀ place = place ≤ 110

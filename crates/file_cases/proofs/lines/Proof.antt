@@ -5,12 +5,6 @@ use mathlib.Core.Path.{_≡_}
 use lib.ListN.{length}
 use Rattle.file_cases.proofs.lines.Statement.{statement}
 use Rattle.file_cases.proofs.lines.Tie as tie
-use Rattle.file_cases.proofs.lines.Reads as reads
-use Rattle.file_cases.proofs.lines.Lts as lts
-use Rattle.file_cases.proofs.spliced.Reads as spliced-reads
-use Rattle.file_cases.proofs.start_of.Reads as start-of-reads
-use Rattle.io.proofs.print_decimal.Reads as print-decimal-reads
-use Rattle.io.proofs.write_all.Reads as write-all-reads
 
 abbrev Inv-loop : tie.InvT-loop
 Inv-loop file k₀ t5 k = (k ≤ 8) × (length file ≡ 110) × (length t5 ≡ 1)

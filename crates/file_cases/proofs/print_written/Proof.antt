@@ -1,13 +1,10 @@
 -- `file_cases::print_written` meets its contract: the place stays within the list. Assumes nothing.
-use Prim.Native.Nat.{_-_, _≤_, _<_}
+use Prim.Native.Nat.{_-_, _≤_}
 use lib.ListN.{length}
 use native.Mathlib.Omega.{arith}
 use borrow.Author.Needs.{needs}
 use Rattle.file_cases.proofs.print_written.Statement.{statement}
 use Rattle.file_cases.proofs.print_written.Tie as tie
-use Rattle.file_cases.proofs.print_written.Reads as reads
-use Rattle.file_cases.proofs.print_written.Lts as lts
-use Rattle.file_cases.proofs.print.Reads as print-reads
 
 abbrev Inv-loop : tie.InvT-loop
 Inv-loop messages i₀ i = i ≤ length messages

@@ -3,9 +3,6 @@ use Prim.Native.Nat.{_-_, _≤_}
 use native.Mathlib.Omega.{arith}
 use Rattle.file_cases.proofs.rooms.Statement.{statement}
 use Rattle.file_cases.proofs.rooms.Tie as tie
-use Rattle.file_cases.proofs.rooms.Reads as reads
-use Rattle.file_cases.proofs.rooms.Lts as lts
-use Rattle.file_cases.proofs.room.Reads as room-reads
 
 abbrev Inv-loop : tie.InvT-loop
 Inv-loop places₀ places = places ≤ 9

@@ -5,9 +5,6 @@ use native.Mathlib.Omega.{arith}
 use mathlib.Core.Logic.{⊎-elim}
 use Rattle.file_cases.proofs.sum_written.Statement.{statement}
 use Rattle.file_cases.proofs.sum_written.Tie as tie
-use Rattle.file_cases.proofs.sum_written.Reads as reads
-use Rattle.file_cases.proofs.sum_written.Lts as lts
-use Rattle.file_cases.proofs.wide.Reads as wide-reads
 
 abbrev Inv-loop : tie.InvT-loop
 Inv-loop messages sum₀ i₀ sum i = (sum < 1000) × (i ≤ length messages)

@@ -5,11 +5,6 @@ use mathlib.Core.Path.{_≡_}
 use lib.ListN.{length}
 use Rattle.file_cases.proofs.truncations.Statement.{statement}
 use Rattle.file_cases.proofs.truncations.Tie as tie
-use Rattle.file_cases.proofs.truncations.Reads as reads
-use Rattle.file_cases.proofs.truncations.Lts as lts
-use Rattle.file_cases.proofs.brief.Reads as brief-reads
-use Rattle.io.proofs.print_decimal.Reads as print-decimal-reads
-use Rattle.io.proofs.write_all.Reads as write-all-reads
 
 abbrev Inv-loop : tie.InvT-loop
 Inv-loop file n₀ t3 n = (n ≤ 111) × (length file ≡ 110) × (length t3 ≡ 1)

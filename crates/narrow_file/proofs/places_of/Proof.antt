@@ -5,8 +5,6 @@ use Prim.Native.Nat.{_+_}
 use borrow.Author.Needs.{needs}
 use Rattle.narrow_file.proofs.places_of.Statement.{statement}
 use Rattle.narrow_file.proofs.places_of.Tie as tie
-use Rattle.narrow_file.proofs.places_of.Reads as reads
-use Rattle.narrow_file.proofs.places_of.Lts as lts
 
 add-result : tie.Need-add-result
 add-result c = search needs

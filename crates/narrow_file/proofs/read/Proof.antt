@@ -4,11 +4,6 @@ use denote.Ref.{now}
 use borrow.Author.Needs.{needs}
 use Rattle.narrow_file.proofs.read.Statement.{statement}
 use Rattle.narrow_file.proofs.read.Tie as tie
-use Rattle.narrow_file.proofs.read.Reads as reads
-use Rattle.narrow_file.proofs.read.Lts as lts
-use Rattle.narrow_file.proofs.fill.fill.Reads as fill-reads
-use Rattle.narrow_file.proofs.lines.judge.Reads as judge-reads
-use Rattle.narrow_file.proofs.places_of.Reads as places-of-reads
 
 judge-requires : tie.Need-judge-requires
 judge-requires c κs = search needs

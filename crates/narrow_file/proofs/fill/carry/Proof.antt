@@ -3,9 +3,6 @@ use Rattle.layout.proofs.Classes.{means}
 use borrow.Author.Needs.{needs}
 use Rattle.narrow_file.proofs.fill.carry.Statement.{statement}
 use Rattle.narrow_file.proofs.fill.carry.Tie as tie
-use Rattle.narrow_file.proofs.fill.carry.Reads as reads
-use Rattle.narrow_file.proofs.fill.carry.Lts as lts
-use Rattle.narrow_file.proofs.fill.shifted.Reads as shifted-reads
 
 enum-told : tie.Need-enum-told
 enum-told c = search needs

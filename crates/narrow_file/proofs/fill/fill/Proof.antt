@@ -6,14 +6,9 @@ use lib.ListN.{length, drop, length-set}
 use native.Mathlib.Omega.{arith}
 use Prim.Native.Nat.{_-_}
 use mathlib.Core.Bool.{true, false}
-use mathlib.Core.Path.{_≡_, refl, sym, ap, _∙_}
+use mathlib.Core.Path.{_≡_, refl, sym, _∙_}
 use Rattle.narrow_file.proofs.fill.fill.Statement.{statement}
 use Rattle.narrow_file.proofs.fill.fill.Tie as tie
-use Rattle.narrow_file.proofs.fill.fill.Reads as reads
-use Rattle.narrow_file.proofs.fill.fill.Lts as lts
-use Rattle.narrow_file.proofs.fill.carry.Reads as carry-reads
-use Rattle.narrow_file.proofs.fill.ends_number.Reads as ends-number-reads
-use Rattle.narrow_file.proofs.line.class_of.Reads as class-of-reads
 
 abbrev Inv-loop : tie.InvT-loop
 Inv-loop bytes at places messages₀ i₀ filled₀ value₀ messages i filled value =

@@ -4,8 +4,6 @@ use Rattle.layout.proofs.Tests.{between-low, between-high}
 use Rattle.layout.proofs.Classes.{class-digit, class-comma, class-equals, class-line-end, class-letter, class-other}
 use Rattle.narrow_file.proofs.line.class_of.Statement.{statement}
 use Rattle.narrow_file.proofs.line.class_of.Tie as tie
-use Rattle.narrow_file.proofs.line.class_of.Reads as reads
-use Rattle.narrow_file.proofs.line.class_of.Lts as lts
 use mathlib.Core.Path.{sym}
 
 returns : tie.Need-returns

@@ -2,9 +2,6 @@
 use borrow.Author.Needs.{needs}
 use Rattle.narrow_file.proofs.line.closed.Statement.{statement}
 use Rattle.narrow_file.proofs.line.closed.Tie as tie
-use Rattle.narrow_file.proofs.line.closed.Reads as reads
-use Rattle.narrow_file.proofs.line.closed.Lts as lts
-use Rattle.narrow_file.proofs.line.closed_number.Reads as closed-number-reads
 
 enum-told : tie.Need-enum-told
 enum-told c = search needs

@@ -4,9 +4,6 @@ use Rattle.narrow_file.proofs.Paths.{closed-empty, closed-early, closed
 use borrow.Author.Needs.{needs}
 use Rattle.narrow_file.proofs.line.closed_number.Statement.{statement}
 use Rattle.narrow_file.proofs.line.closed_number.Tie as tie
-use Rattle.narrow_file.proofs.line.closed_number.Reads as reads
-use Rattle.narrow_file.proofs.line.closed_number.Lts as lts
-use Rattle.narrow_file.proofs.line.still.Reads as still-reads
 
 returns : tie.Need-returns
 returns c = λ bytes. closed-empty _ _ _ (c .if1 .taken)

@@ -3,10 +3,6 @@ use Rattle.layout.proofs.Classes.{means}
 use borrow.Author.Needs.{needs}
 use Rattle.narrow_file.proofs.line.in_numbers.Statement.{statement}
 use Rattle.narrow_file.proofs.line.in_numbers.Tie as tie
-use Rattle.narrow_file.proofs.line.in_numbers.Reads as reads
-use Rattle.narrow_file.proofs.line.in_numbers.Lts as lts
-use Rattle.narrow_file.proofs.line.with_comma.Reads as with-comma-reads
-use Rattle.narrow_file.proofs.line.with_digit.Reads as with-digit-reads
 
 enum-told : tie.Need-enum-told
 enum-told c = search needs

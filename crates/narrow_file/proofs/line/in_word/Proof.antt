@@ -2,10 +2,6 @@
 use borrow.Author.Needs.{needs}
 use Rattle.narrow_file.proofs.line.in_word.Statement.{statement}
 use Rattle.narrow_file.proofs.line.in_word.Tie as tie
-use Rattle.narrow_file.proofs.line.in_word.Reads as reads
-use Rattle.narrow_file.proofs.line.in_word.Lts as lts
-use Rattle.narrow_file.proofs.line.open.Reads as open-reads
-use Rattle.narrow_file.proofs.line.with_letter.Reads as with-letter-reads
 
 enum-told : tie.Need-enum-told
 enum-told c = search needs

@@ -12,13 +12,6 @@ use mathlib.Core.Bool.{true, false}
 use mathlib.Core.Path.{_≡_, refl, _∙_}
 use Rattle.narrow_file.proofs.line.line_at.Statement.{statement}
 use Rattle.narrow_file.proofs.line.line_at.Tie as tie
-use Rattle.narrow_file.proofs.line.line_at.Reads as reads
-use Rattle.narrow_file.proofs.line.line_at.Lts as lts
-use Rattle.narrow_file.proofs.line.class_of.Reads as class-of-reads
-use Rattle.narrow_file.proofs.line.closed.Reads as closed-reads
-use Rattle.narrow_file.proofs.line.ends.Reads as ends-reads
-use Rattle.narrow_file.proofs.line.step.Reads as step-reads
-use Rattle.narrow_file.proofs.line.unended.Reads as unended-reads
 
 abbrev Inv-loop : tie.InvT-loop
 Inv-loop bytes at word wanted state₀ i₀ state i = (at ≤ i) × (runOf wanted word state (drop i bytes) ≡ runOf wanted word (Word 0) (drop at bytes))

@@ -4,8 +4,6 @@ use native.Mathlib.Omega.{arith}
 use borrow.Author.Needs.{needs}
 use Rattle.narrow_file.proofs.line.more.Statement.{statement}
 use Rattle.narrow_file.proofs.line.more.Tie as tie
-use Rattle.narrow_file.proofs.line.more.Reads as reads
-use Rattle.narrow_file.proofs.line.more.Lts as lts
 
 sub-digit : tie.Need-sub-digit
 sub-digit c = search needs

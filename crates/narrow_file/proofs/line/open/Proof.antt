@@ -2,8 +2,6 @@
 use Rattle.narrow_file.proofs.Paths.{open-right, open-wrong}
 use Rattle.narrow_file.proofs.line.open.Statement.{statement}
 use Rattle.narrow_file.proofs.line.open.Tie as tie
-use Rattle.narrow_file.proofs.line.open.Reads as reads
-use Rattle.narrow_file.proofs.line.open.Lts as lts
 
 returns : tie.Need-returns
 returns c = open-right _ _ _ (c .if1 .taken)

@@ -2,10 +2,6 @@
 use borrow.Author.Needs.{needs}
 use Rattle.narrow_file.proofs.line.step.Statement.{statement}
 use Rattle.narrow_file.proofs.line.step.Tie as tie
-use Rattle.narrow_file.proofs.line.step.Reads as reads
-use Rattle.narrow_file.proofs.line.step.Lts as lts
-use Rattle.narrow_file.proofs.line.in_numbers.Reads as in-numbers-reads
-use Rattle.narrow_file.proofs.line.in_word.Reads as in-word-reads
 
 enum-known-state : tie.Need-enum-known-state
 enum-known-state c = search needs

@@ -3,8 +3,6 @@ use borrow.Author.Tests.{not-true, not-false}
 use Rattle.narrow_file.proofs.Paths.{still-not, still-low, still-high}
 use Rattle.narrow_file.proofs.line.still.Statement.{statement}
 use Rattle.narrow_file.proofs.line.still.Tie as tie
-use Rattle.narrow_file.proofs.line.still.Reads as reads
-use Rattle.narrow_file.proofs.line.still.Lts as lts
 
 returns : tie.Need-returns
 returns c = still-not _ _ (not-true _ (c .if1 .taken))

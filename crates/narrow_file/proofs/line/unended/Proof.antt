@@ -3,8 +3,6 @@ use Rattle.narrow_file.specs.Steps.{unendedOf}
 use borrow.Author.Tests.{le-leb, lt-leb}
 use Rattle.narrow_file.proofs.line.unended.Statement.{statement}
 use Rattle.narrow_file.proofs.line.unended.Tie as tie
-use Rattle.narrow_file.proofs.line.unended.Reads as reads
-use Rattle.narrow_file.proofs.line.unended.Lts as lts
 
 returns : tie.Need-returns
 unfolding unendedOf

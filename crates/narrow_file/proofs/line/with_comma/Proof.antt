@@ -3,9 +3,6 @@ use Rattle.narrow_file.proofs.Paths.{comma-empty, comma-last, comma-nex
 use borrow.Author.Needs.{needs}
 use Rattle.narrow_file.proofs.line.with_comma.Statement.{statement}
 use Rattle.narrow_file.proofs.line.with_comma.Tie as tie
-use Rattle.narrow_file.proofs.line.with_comma.Reads as reads
-use Rattle.narrow_file.proofs.line.with_comma.Lts as lts
-use Rattle.narrow_file.proofs.line.still.Reads as still-reads
 
 returns : tie.Need-returns
 returns c = comma-empty _ _ (c .if1 .taken)

@@ -3,9 +3,6 @@ use Rattle.narrow_file.proofs.Paths.{digit-full, digit-first, digit-aft
 use borrow.Author.Needs.{needs}
 use Rattle.narrow_file.proofs.line.with_digit.Statement.{statement}
 use Rattle.narrow_file.proofs.line.with_digit.Tie as tie
-use Rattle.narrow_file.proofs.line.with_digit.Reads as reads
-use Rattle.narrow_file.proofs.line.with_digit.Lts as lts
-use Rattle.narrow_file.proofs.line.more.Reads as more-reads
 
 returns : tie.Need-returns
 returns c = digit-full _ _ _ (c .if1 .taken)

@@ -3,8 +3,6 @@ use Rattle.narrow_file.proofs.Paths.{letter-past, letter-right, letter-
 use borrow.Author.Needs.{needs}
 use Rattle.narrow_file.proofs.line.with_letter.Statement.{statement}
 use Rattle.narrow_file.proofs.line.with_letter.Tie as tie
-use Rattle.narrow_file.proofs.line.with_letter.Reads as reads
-use Rattle.narrow_file.proofs.line.with_letter.Lts as lts
 
 returns : tie.Need-returns
 returns c = letter-past _ _ _ (c .if1 .taken)

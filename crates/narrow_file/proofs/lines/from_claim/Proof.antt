@@ -10,10 +10,6 @@ use mathlib.Core.Path.{refl, _∙_}
 use borrow.Author.Needs.{needs}
 use Rattle.narrow_file.proofs.lines.from_claim.Statement.{statement}
 use Rattle.narrow_file.proofs.lines.from_claim.Tie as tie
-use Rattle.narrow_file.proofs.lines.from_claim.Reads as reads
-use Rattle.narrow_file.proofs.lines.from_claim.Lts as lts
-use Rattle.narrow_file.proofs.line.line_at.Reads as line-at-reads
-use Rattle.narrow_file.proofs.lines.from_rounds.Reads as from-rounds-reads
 
 slice-aggregate-line-at : tie.Need-slice-aggregate-line-at
 slice-aggregate-line-at c = search needs

@@ -8,10 +8,6 @@ use mathlib.Core.Path.{refl, _∙_}
 use borrow.Author.Needs.{needs}
 use Rattle.narrow_file.proofs.lines.from_edition.Statement.{statement}
 use Rattle.narrow_file.proofs.lines.from_edition.Tie as tie
-use Rattle.narrow_file.proofs.lines.from_edition.Reads as reads
-use Rattle.narrow_file.proofs.lines.from_edition.Lts as lts
-use Rattle.narrow_file.proofs.line.line_at.Reads as line-at-reads
-use Rattle.narrow_file.proofs.lines.from_field.Reads as from-field-reads
 
 slice-aggregate-line-at : tie.Need-slice-aggregate-line-at
 slice-aggregate-line-at c = search needs

@@ -6,9 +6,6 @@ use denote.Ref.{now}
 use borrow.Author.Needs.{needs}
 use Rattle.narrow_file.proofs.lines.from_end.Statement.{statement}
 use Rattle.narrow_file.proofs.lines.from_end.Tie as tie
-use Rattle.narrow_file.proofs.lines.from_end.Reads as reads
-use Rattle.narrow_file.proofs.lines.from_end.Lts as lts
-use Rattle.narrow_file.proofs.line.line_at.Reads as line-at-reads
 
 add-end : tie.Need-add-end
 add-end c = search needs

@@ -8,10 +8,6 @@ use mathlib.Core.Path.{refl, _∙_}
 use borrow.Author.Needs.{needs}
 use Rattle.narrow_file.proofs.lines.from_field.Statement.{statement}
 use Rattle.narrow_file.proofs.lines.from_field.Tie as tie
-use Rattle.narrow_file.proofs.lines.from_field.Reads as reads
-use Rattle.narrow_file.proofs.lines.from_field.Lts as lts
-use Rattle.narrow_file.proofs.line.line_at.Reads as line-at-reads
-use Rattle.narrow_file.proofs.lines.from_vars.Reads as from-vars-reads
 
 slice-aggregate-line-at : tie.Need-slice-aggregate-line-at
 slice-aggregate-line-at c = search needs

@@ -5,10 +5,6 @@ use mathlib.Core.Path.{_∙_}
 use borrow.Author.Needs.{needs}
 use Rattle.narrow_file.proofs.lines.from_rounds.Statement.{statement}
 use Rattle.narrow_file.proofs.lines.from_rounds.Tie as tie
-use Rattle.narrow_file.proofs.lines.from_rounds.Reads as reads
-use Rattle.narrow_file.proofs.lines.from_rounds.Lts as lts
-use Rattle.narrow_file.proofs.lines.from_end.Reads as from-end-reads
-use Rattle.narrow_file.proofs.lines.rounds_at.Reads as rounds-at-reads
 
 rounds-at-requires : tie.Need-rounds-at-requires
 rounds-at-requires c κs = search needs

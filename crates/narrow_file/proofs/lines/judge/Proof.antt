@@ -4,9 +4,6 @@ use borrow.Author.Tests.{lt-ltb, le-ltb}
 use borrow.Author.Needs.{needs}
 use Rattle.narrow_file.proofs.lines.judge.Statement.{statement}
 use Rattle.narrow_file.proofs.lines.judge.Tie as tie
-use Rattle.narrow_file.proofs.lines.judge.Reads as reads
-use Rattle.narrow_file.proofs.lines.judge.Lts as lts
-use Rattle.narrow_file.proofs.lines.from_edition.Reads as from-edition-reads
 
 returns : tie.Need-returns
 unfolding answer

@@ -13,9 +13,6 @@ use native.Mathlib.Omega.{arith}
 use mathlib.Core.Path.{_≡_, refl, _∙_}
 use Rattle.narrow_file.proofs.lines.rounds_at.Statement.{statement}
 use Rattle.narrow_file.proofs.lines.rounds_at.Tie as tie
-use Rattle.narrow_file.proofs.lines.rounds_at.Reads as reads
-use Rattle.narrow_file.proofs.lines.rounds_at.Lts as lts
-use Rattle.narrow_file.proofs.line.line_at.Reads as line-at-reads
 
 abbrev Inv-loop : tie.InvT-loop
 Inv-loop bytes at vars degree place₀ j₀ t12 place j = (j ≤ vars) × (bare (linesAt (j + 6) (vars - j) (roundLine narrow degree) (drop place bytes)) ≡ bare (linesAt 6 vars (roundLine narrow degree) (drop at bytes)))
