@@ -3,9 +3,10 @@
 use mathlib.Core.Path.{_≡_, refl, sym, ap, ap₂, subst, _∙_}
 use mathlib.Core.Bool.{Bool, true, false, _&&_}
 use mathlib.Core.List.{List, [], _∷_, _++_, append-nil, append-assoc}
-use Prim.Native.Nat.{ℕ, zero, suc, _+_, _-_, _*_, _/_, _%_, _≤_, _<_}
+use Prim.Native.Nat.{ℕ, zero, suc, _+_, _-_, _*_, _/_, _%_, _^_, _≤_, _<_}
+use native.Mathlib.Nat.{pow-suc}
 use native.Mathlib.Omega.{arith}
-use lib.ListN.{length}
+use lib.ListN.{length, length-append}
 use lib.Dec.{eqb, ltb}
 use borrow.Author.Tests.{eqb-false, lt-ltb, le-ltb, ltb-true, ltb-false, not-true}
 use Rattle.layout.specs.Bytes.{between, isDigit}
@@ -152,3 +153,17 @@ pub decimal-number : (most n : ℕ) → length (decimal n) ≤ most → isNumber
 decimal-number most n h =
     let s = shape (suc n) n (omega arith) in
     number-yes most (decimal n) (s .each) (omega (arith, ap length (s .here))) h (s .lead)
+
+-- below 10^k there are at most k digits
+pub decimal-length : (k n : ℕ) → n < 10 ^ suc k → length (decimal n) ≤ suc k
+decimal-length zero n h = omega (arith, ap length (decimal-one n h))
+decimal-length (suc k) n h = go (ltb n 10) refl (decimal-length k (n / 10))
+  where
+    go : (t : Bool) → ltb n 10 ≡ t → (n / 10 < 10 ^ suc k → length (decimal (n / 10)) ≤ suc k) → length (decimal n) ≤ suc (suc k)
+    go true e ih = omega (arith, ap length (decimal-one n (ltb-true n 10 e)))
+    go false e ih =
+        let l = ltb-false n 10 e in
+        let m : n / 10 * 10 + n % 10 ≡ n = omega arith in
+        let d = ap decimal (sym m) ∙ decimal-more (n / 10) (n % 10) (omega arith) (omega arith) in
+        let i = ih (omega (arith, pow-suc 10 (suc k))) in
+        omega (arith, ap length d, length-append (decimal (n / 10)) ((48 + n % 10) ∷ []))

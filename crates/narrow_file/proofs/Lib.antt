@@ -8,6 +8,7 @@
 --   Collect   the numbers of the second pass are those of the first
 --   Rounds    the answer from the rounds on
 --   Pour      the second pass from some place on
+--   Cases     the document's file cases hold of the definitions
 --   Replies   the reply, from what the first pass tells
 pub mod Paths
 pub mod Machine
@@ -19,3 +20,4 @@ pub mod Collect
 pub mod Rounds
 pub mod Pour
 pub mod Replies
+pub mod Cases
