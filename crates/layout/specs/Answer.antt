@@ -110,35 +110,42 @@ only [] = 0
 only (n ∷ []) = n
 only (n ∷ next ∷ more) = only (next ∷ more)
 
--- the answer from some line on, for the bytes from there on and the numbers read before, last line first
--- after `end`, which is line M+6: 13, line M+7, for anything
+-- The answer from some line on, for the bytes from there on and the numbers read before. The last line stands first.
+-- after `end`: 13, line M+7, for anything
 abbrev pub fromAfter : ℕ → ℕ → ℕ → List ℕ → List ℕ → Answer
 fromAfter vars degree claim coefficients [] = file vars degree claim coefficients
 fromAfter vars degree claim coefficients (b ∷ rest) = refused 13 (vars + 7)
 
+-- line M+6: `end`
 unfoldable pub fromEnd : Layout → ℕ → ℕ → ℕ → List ℕ → List ℕ → Answer
 fromEnd layout vars degree claim coefficients bytes =
     answerThen (lineAt (vars + 6) (endLine layout vars) bytes) (λ ns rest. fromAfter vars degree claim coefficients rest)
 
+-- lines 6 to M+5: the rounds
 unfoldable pub fromRounds : Layout → ℕ → ℕ → ℕ → List ℕ → Answer
 fromRounds layout vars degree claim bytes =
     answerThen (linesAt 6 vars (roundLine layout degree) bytes)
     (λ coefficients rest. fromEnd layout vars degree claim coefficients rest)
 
+-- line 5: the claim
 unfoldable pub fromClaim : Layout → ℕ → ℕ → List ℕ → Answer
 fromClaim layout vars degree bytes =
     answerThen (lineAt 5 (claimLine layout) bytes) (λ ns rest. fromRounds layout vars degree (only ns) rest)
 
+-- line 4: the degree
 unfoldable pub fromDegree : Layout → ℕ → List ℕ → Answer
 fromDegree layout vars bytes =
     answerThen (lineAt 4 (degreeLine layout) bytes) (λ ns rest. fromClaim layout vars (only ns) rest)
 
+-- line 3: vars
 unfoldable pub fromVars : Layout → List ℕ → Answer
 fromVars layout bytes = answerThen (lineAt 3 (varsLine layout) bytes) (λ ns rest. fromDegree layout (only ns) rest)
 
+-- line 2: the field
 unfoldable pub fromField : Layout → List ℕ → Answer
 fromField layout bytes = answerThen (lineAt 2 (fieldLine layout) bytes) (λ ns rest. fromVars layout rest)
 
+-- line 1: the edition
 unfoldable pub fromEdition : Layout → List ℕ → Answer
 fromEdition layout bytes = answerThen (lineAt 1 (editionLine layout) bytes) (λ ns rest. fromField layout rest)
 

@@ -35,6 +35,6 @@ unfoldable pub digits : ℕ → ℕ → List ℕ
 digits zero n = []
 digits (suc most) n = elim (ltb n 10) [ true ↦ (48 + n) ∷ [] | false ↦ digits most (n / 10) ++ (48 + n % 10) ∷ [] ]
 
--- n in decimal digits, with no leading 0 (n has less than n + 1 digits, or one)
+-- n in decimal digits, with no leading 0 (n has at most n + 1 digits)
 unfoldable pub decimal : ℕ → List ℕ
 decimal n = digits (suc n) n

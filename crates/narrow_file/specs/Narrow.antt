@@ -47,12 +47,12 @@ after (file vars degree claim coefficients) list = coefficients ++ drop (vars * 
 -- what the reader returns: a file's head, or a refusal's number and line
 pub data Head : Type 0 where
   head : ℕ → ℕ → ℕ → Head
-  no : ℕ → ℕ → Head
+  refusal : ℕ → ℕ → Head
 
 abbrev pub told : Answer → Head
 told (file vars degree claim coefficients) = head vars degree claim
-told (refused number line) = no number line
+told (refused number line) = refusal number line
 
 abbrev pub said : Reply → Head
 said (File vars degree claim) = head vars degree claim
-said (Refused number line) = no number line
+said (Refused number line) = refusal number line
