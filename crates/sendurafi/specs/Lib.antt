@@ -1,0 +1,3 @@
+-- The library's face for other languages.
+--   Coded   every answer in numbers
+pub mod Coded
