@@ -24,7 +24,7 @@ use narrow_field::modulo::times;
 use narrow_field::modulo::times_plus;
 
 // The point at r on the line from a (at 0) to b (at 1).
-pub(crate) fn point_between(r: u32, a: u32, b: u32) -> u32
+pub fn point_between(r: u32, a: u32, b: u32) -> u32
     ensures { λ v. ⌜ v ≡ between p r a b ⌝ }
 {
     times_plus(r, less(b, a), a)

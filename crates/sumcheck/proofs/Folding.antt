@@ -39,10 +39,10 @@ halves m r a b w =
     (b * (1 + m * r) * w)
     (omega arith)
 
-low-index : (h i : ℕ) → i ≡ 0 * h + i
+pub low-index : (h i : ℕ) → i ≡ 0 * h + i
 low-index h i = omega arith
 
-high-index : (h i : ℕ) → h + i ≡ 1 * h + i
+pub high-index : (h i : ℕ) → h + i ≡ 1 * h + i
 high-index h i = omega arith
 
 -- what one corner adds to the sum of an extension

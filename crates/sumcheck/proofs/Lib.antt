@@ -6,6 +6,12 @@
 --   Halves        an extension by halves; the true sum by places
 --   Parts         a lent list as parts of one size
 --   Answers       the entries' answers, one test at a time
+--   Folded        RoundFolded   tables folded by several challenges, and a true polynomial from them
+--   Laid          pieces of one length laid over the front of a list
+--   Written       a list whose first places have been written
+--   FoldedParts   folding tables that lie one after the other in one list
+--   Terms         a round's polynomial as loops make it
+--   Progress      the prover's progress, a round at a time
 --   Search        the walk for refusal 5: table by table, place by place
 --   Walk          the rounds taken one by one from a lent message list
 --   Unrefused     what a call knows that was not refused
@@ -30,6 +36,13 @@ pub mod Search
 pub mod Halves
 pub mod Parts
 pub mod Answers
+pub mod Folded
+pub mod RoundFolded
+pub mod Laid
+pub mod Written
+pub mod FoldedParts
+pub mod Terms
+pub mod Progress
 pub mod Walk
 pub mod Unrefused
 pub mod Part

@@ -81,7 +81,7 @@ lucky-from n h ts (x ∷ rs) r (s ∷ ss) j c v wrong e w =
     (sym (choose-true (fits n s c) (roundsFrom n (suc j) (value n s x) rs ss) (failed j) fit) ∙ e) (w ∙ ap (f n ts) (sym (append-assoc r (x ∷ []) rs))))
 
 -- the true polynomial of round i, by its place among them
-place : (n : ℕ) (ts : List (List ℕ)) (rs r : List ℕ) (i : ℕ) → i < length rs
+pub place : (n : ℕ) (ts : List (List ℕ)) (rs r : List ℕ) (i : ℕ) → i < length rs
     → getD (polynomialsAfter n ts r rs) i [] ≡ truePolynomial n ts (r ++ take i rs) (length rs - suc i)
 place n ts [] r i h = absurd (omega arith)
 place n ts (x ∷ rs) r zero h = ap₂ (truePolynomial n ts) (sym (append-nil r)) (sym (suc-sub-suc (length rs) 0 ∙ sub-zero (length rs)))

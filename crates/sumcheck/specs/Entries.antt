@@ -45,28 +45,31 @@ valueAnswer n vars degree tables point =
     ∷ [])
     (f n (tablesOf vars degree tables) point)
 
--- the prover: the number of its refusal, 0 if none
-abbrev pub proverRefusal : ℕ → ℕ → ℕ → List ℕ → List ℕ → List ℕ → List ℕ → ℕ
-proverRefusal n vars degree tables challenges messages scratch =
-    first
-    (1 when badVars vars
+-- the prover's refusals
+abbrev pub proverRules : ℕ → ℕ → ℕ → List ℕ → List ℕ → List ℕ → List ℕ → List Rule
+proverRules n vars degree tables challenges messages scratch =
+    1 when badVars vars
     ∷ 2 when badDegree degree
     ∷ 3 when either (notLong (tablesLength vars degree) tables) (notLong vars challenges)
     ∷ 4 when either (tooShort (messagesLength vars degree) messages) (tooShort (tablesLength vars degree) scratch)
     ∷ 5 when outside n (tables ++ challenges)
-    ∷ [])
+    ∷ []
 
--- what the lent message list holds afterwards: the true polynomials in its first m(k+1) places, its rest unchanged
+-- what the prover answers: done, or a refusal
+abbrev pub proverAnswer : ℕ → ℕ → ℕ → List ℕ → List ℕ → List ℕ → List ℕ → Answer (Unit {0})
+proverAnswer n vars degree tables challenges messages scratch = decide (proverRules n vars degree tables challenges messages scratch) tt
+
+-- what the lent message list holds afterwards: the true polynomials in its first m(k+1) places, its rest unchanged; all of it where refused
 abbrev pub messagesAfter : ℕ → ℕ → ℕ → List ℕ → List ℕ → List ℕ → List ℕ → List ℕ
 messagesAfter n vars degree tables challenges messages scratch =
-    choose (eqb (proverRefusal n vars degree tables challenges messages scratch) 0)
+    choose (eqb (first (proverRules n vars degree tables challenges messages scratch)) 0)
     (join (truePolynomials n (tablesOf vars degree tables) challenges) ++ drop (messagesLength vars degree) messages)
     messages
 
--- what scratch holds afterwards: 0 in its first k·2^m places, its rest unchanged
+-- what scratch holds afterwards: 0 in its first k·2^m places, its rest unchanged; all of it where refused
 abbrev pub scratchAfter : ℕ → ℕ → ℕ → List ℕ → List ℕ → List ℕ → List ℕ → List ℕ
 scratchAfter n vars degree tables challenges messages scratch =
-    choose (eqb (proverRefusal n vars degree tables challenges messages scratch) 0)
+    choose (eqb (first (proverRules n vars degree tables challenges messages scratch)) 0)
     (replicate (tablesLength vars degree) 0 ++ drop (tablesLength vars degree) scratch)
     scratch
 

@@ -1,3 +1,5 @@
+-- `narrow_tables::value::extension_at` meets its contract: the extension is the point between those of the table's halves at the rest of the point. The
+-- measure is the point's length. Assumes nothing.
 use borrow.Author.Needs.{needs}
 use native.Mathlib.Omega.{arith}
 use mathlib.Core.Path.{ap, ap₂, _∙_}

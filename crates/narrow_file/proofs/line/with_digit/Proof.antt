@@ -1,0 +1,30 @@
+-- `narrow_file::line::with_digit` meets its contract: each path is a law of Paths. Assumes nothing.
+use Rattle.narrow_file.proofs.Paths.{digit-full, digit-first, digit-after-zero, digit-later}
+use borrow.Author.Needs.{needs}
+use Rattle.narrow_file.proofs.line.with_digit.Statement.{statement}
+use Rattle.narrow_file.proofs.line.with_digit.Tie as tie
+
+returns : tie.Need-returns
+returns c = digit-full _ _ _ (c .if1 .taken)
+
+more-requires : tie.Need-more-requires
+more-requires c κs = search needs
+
+returns-2 : tie.Need-returns-2
+returns-2 c = digit-first _ _ _ _ (c .before .before .before .if1 .left) (c .before .if2 .taken) (c .more .ensures)
+
+returns-3 : tie.Need-returns-3
+returns-3 c = digit-after-zero _ _ _ (c .before .before .before .before .if1 .left) (c .before .before .if2 .left) (c .if3 .taken)
+
+more-requires-2 : tie.Need-more-requires-2
+more-requires-2 c κs = search needs
+
+add-t8 : tie.Need-add-t8
+add-t8 c = search needs
+
+returns-4 : tie.Need-returns-4
+returns-4 c = digit-later _ _ _ _ (c .before .before .before .before .before .before .if1 .left) (c .before .before .before .before .if2 .left) (c .before .before .if3 .left) (c .before .more2 .ensures)
+
+pub with-digit-spec : {M : Type 1} → statement M
+with-digit-spec =
+    tie.close (tie.spec returns more-requires returns-2 returns-3 more-requires-2 add-t8 returns-4)

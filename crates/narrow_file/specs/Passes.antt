@@ -1,0 +1,49 @@
+-- What the inner functions of the two passes promise. Nothing that a caller is promised rests on this file.
+use mathlib.Core.Bool.{Bool, true, false}
+use mathlib.Core.List.{List, [], _∷_, _++_}
+use Prim.Native.Nat.{ℕ, _+_, _-_, _*_, _%_, _^_}
+use lib.ListN.{length, take, drop}
+use Rattle.refusals.specs.First.{choose}
+use Rattle.layout.specs.Bytes.{Class, digit, comma, equals, lineEnd, letter, other, classOf}
+use Rattle.layout.specs.Line.{Outcome, fault, found}
+use Rattle.layout.specs.Answer.{Answer, file, refused}
+use Rattle.narrow_file.specs.declared.lines.Judged.{Judged}
+use Rattle.narrow_file.specs.declared.lines.Judged.the-variants.{File, Refused}
+use Rattle.narrow_file.specs.Steps.{Brief, stopped, went}
+
+-- the second pass takes a number's end for the place to store it
+abbrev pub stores : Class → Bool
+stores comma = true
+stores lineEnd = true
+stores digit = false
+stores equals = false
+stores letter = false
+stores other = false
+
+-- the value that a byte makes of the value before it, in 32 bits
+abbrev pub carried : ℕ → ℕ → Class → ℕ
+carried v b digit = (v * 10 + (b - 48)) % 2 ^ 32
+carried v b comma = v
+carried v b equals = v
+carried v b lineEnd = v
+carried v b letter = v
+carried v b other = v
+
+-- the numbers that stand in bytes, the first after digits of the value v
+abbrev pub collect : ℕ → List ℕ → List ℕ
+collect v [] = []
+collect v (b ∷ rest) = choose (stores (classOf b)) (v ∷ collect 0 rest) (collect (carried v b (classOf b)) rest)
+
+-- numbers put into the first places of a list
+abbrev pub put : List ℕ → List ℕ → List ℕ
+put ns list = ns ++ drop (length ns) list
+
+-- what the first pass tells: a refusal; or the file's head and where its rounds start
+abbrev pub saidJudged : List ℕ → Judged → Answer
+saidJudged bytes (Refused number line) = refused number line
+saidJudged bytes (File vars degree claim rounds) = file vars degree claim (take (vars * (degree + 1)) (collect 0 (drop rounds bytes)))
+
+-- an outcome without its numbers
+abbrev pub bare : Outcome → Brief
+bare (fault number line) = stopped number line
+bare (found ns rest) = went 0 rest

@@ -1,0 +1,13 @@
+// The prover over the narrow field (document 01, "What is offered"). `array` has a round's coefficients as one array value, `fold` the folding of
+// tables by a challenge, `round` a round's polynomial, `memory` copying and clearing, `prove` the entry.
+pub mod array;
+pub mod fold;
+pub mod memory;
+pub mod prove;
+pub mod round;
+
+// What the prover answers: done, or the number of a refusal.
+pub enum Proof {
+    Done,
+    Refused(u32),
+}
