@@ -1,11 +1,10 @@
 -- No two answers say the same (specs/Said, Pins): so each promise, which is an equation of what is said, leaves one answer. Assumes nothing.
-use mathlib.Core.Path.{_≡_, refl, ap, ap₂}
+use mathlib.Core.Path.{refl, ap, ap₂}
 use Rattle.sumcheck.specs.Protocol as Protocol
 use Rattle.sumcheck.specs.Steps as Steps
 use Rattle.narrow_checker.specs.Said.{said, saidRounds, stateOf, saidOpening, saidOpened, saidStep, saidStepped, saidClosed, Pins}
 use Rattle.narrow_checker.specs.declared.Verdict.{Verdict}
 use Rattle.narrow_checker.specs.declared.Verdict.the-variants.{Accepted, Rejected, Refused}
-use Rattle.narrow_checker.specs.declared.Rounds.{Rounds}
 use Rattle.narrow_checker.specs.declared.Rounds.the-variants as R
 use Rattle.narrow_checker.specs.declared.state.State.{State}
 use Rattle.narrow_checker.specs.declared.state.Opening.{Opening}
