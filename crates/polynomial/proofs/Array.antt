@@ -8,7 +8,7 @@ use native.Mathlib.Omega.{arith}
 use lib.ListN.{length, take, drop, getD, set, replicate, drop-of-length-le}
 use lib.Seq.{take-all, take-suc, drop-cons, set-at, append-snoc, length-take-le}
 use Rattle.arithmetic.specs.Modulo.{add, mul}
-use Rattle.arithmetic.proofs.Ring.{Term, at, _⊕_, _⊗_, same}
+use Rattle.arithmetic.proofs.Ring.{at, _⊕_, _⊗_, same}
 use Rattle.arithmetic.proofs.Modulo.{mul-zero-mod}
 use Rattle.polynomial.specs.Polynomial.{value}
 use Rattle.polynomial.specs.Array.{padded}

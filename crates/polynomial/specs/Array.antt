@@ -1,5 +1,5 @@
 -- A polynomial in an array of so many places: its coefficients, and zeros on top.
-use mathlib.Core.List.{List, [], _∷_, _++_}
+use mathlib.Core.List.{List, _++_}
 use Prim.Native.Nat.{ℕ, _-_}
 use lib.ListN.{length, take, replicate}
 

@@ -1,35 +1,34 @@
 -- Steps and closing agree with the checker where all inputs are well formed (specs/Sequences, StepsAgree and RoundsAgree): no step is refused before
 -- a round rejects, and closing is not refused then. Assumes nothing.
-use mathlib.Core.Path.{_≡_, refl, sym, ap, ap₂, subst, _∙_}
+use mathlib.Core.Path.{_≡_, refl, sym, ap, subst, _∙_}
 use mathlib.Core.Bool.{Bool, true, false, not}
 use mathlib.Core.List.{List, [], _∷_, map}
-use Prim.Native.Nat.{ℕ, zero, suc, _+_, _*_, _%_, _≤_, _<_}
-use native.Mathlib.Nat.{mod-lt, add-zero}
+use Prim.Native.Nat.{ℕ, zero, suc, _+_, _≤_, _<_}
+use native.Mathlib.Nat.{mod-lt}
 use native.Mathlib.Omega.{arith}
-use lib.Dec.{eqb, ltb}
 use lib.ListN.{length, getD}
 use borrow.Author.Tests.{le-ltb, eq-eqb, ne-eqb}
-use Rattle.polynomial.specs.Elements.{Every, Elements, product}
+use Rattle.polynomial.specs.Elements.{Every, Elements}
 use Rattle.polynomial.specs.Polynomial.{value}
 use Rattle.polynomial.proofs.Value.{value-reduced}
-use Rattle.refusals.specs.First.{given, first, choose, either}
-use Rattle.refusals.proofs.First.{choose-true, choose-false, either-left, either-right, either-none}
+use Rattle.refusals.specs.First.{given, first, choose}
+use Rattle.refusals.proofs.First.{either-none}
 use Rattle.refusals.proofs.Order.{untested, untested-none, given-by}
 use Rattle.sumcheck.specs.Extension.{extension}
 use Rattle.sumcheck.specs.Function.{f}
-use Rattle.sumcheck.specs.Protocol.{fits, Rounds, reached, failed, rounds, final, verdict}
+use Rattle.sumcheck.specs.Protocol.{fits, rounds, final, verdict}
 use Rattle.sumcheck.specs.Lent.{tablesOf, messagesOf, badVars, badDegree}
 use Rattle.sumcheck.specs.Entries.{checkerRules, roundsRules}
 use Rattle.sumcheck.specs.Checker.{claimAfter}
-use Rattle.sumcheck.specs.Steps.{State, Back, complete, over, forged, fresh, Judged, stepRules, onward, marked, judged, moved, step, closingRules, closed, closing}
+use Rattle.sumcheck.specs.Steps.{State, Back, over, forged, fresh, Judged, stepRules, closingRules, closed, closing}
 use Rattle.sumcheck.specs.Sequences.{Input, endOf, challengesOf, messagesIn, inputsOf, roundsBy, StepsAgree, RoundsAgree}
 use Rattle.sumcheck.proofs.Parts.{product-reduced}
 use Rattle.sumcheck.proofs.Unrefused.{long-is, inside-is}
-use Rattle.sumcheck.proofs.Entries.{RoundsLent, rounds-lent, checker-lent, checker-rounds}
+use Rattle.sumcheck.proofs.Entries.{RoundsLent, rounds-lent, checker-rounds}
 use Rattle.sumcheck.proofs.Messages.{parts-length, parts-sizes, parts-elements}
 use Rattle.sumcheck.proofs.Steps.{step-given}
 use Rattle.sumcheck.proofs.Followed.{follow, answers, stateAt, Ended, through, stopped, ended}
-use Rattle.sumcheck.proofs.Sequences.{Stays, stays, closed-ended}
+use Rattle.sumcheck.proofs.Sequences.{stays, closed-ended}
 
 -- an input of the right length and of elements
 pub record Formed (n degree : ℕ) (i : Input) : Type 0 where

@@ -13,7 +13,7 @@ use Rattle.refusals.specs.First.{given, first, choose}
 use Rattle.refusals.proofs.First.{choose-true, choose-false}
 use Rattle.refusals.proofs.Order.{given-by, refused-by, decided-given, decided-refused}
 use Rattle.sumcheck.specs.Function.{f, trueSum}
-use Rattle.sumcheck.specs.Protocol.{Rounds, reached, failed, rounds, Verdict, accepted, rejected, final, verdict}
+use Rattle.sumcheck.specs.Protocol.{reached, failed, rounds, Verdict, accepted, rejected, final, verdict}
 use Rattle.sumcheck.specs.Lent.{tablesOf, messagesOf}
 use Rattle.sumcheck.specs.Entries.{checkerRules, checkerAnswer}
 use Rattle.sumcheck.specs.Demands.{WellFormed, Sound, NoVariables}

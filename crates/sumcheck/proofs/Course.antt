@@ -2,16 +2,15 @@
 use mathlib.Core.Path.{_≡_, refl, sym, ap, _∙_}
 use mathlib.Core.Bool.{Bool, true, false}
 use mathlib.Core.List.{List, [], _∷_}
-use Prim.Native.Nat.{ℕ, zero, suc, _+_, _≤_, _<_}
+use Prim.Native.Nat.{ℕ, zero, suc, _+_, _<_}
 use native.Mathlib.Nat.{add-zero}
 use native.Mathlib.Omega.{arith}
-use lib.Dec.{eqb}
-use lib.ListN.{length, getD}
+use lib.ListN.{length}
 use borrow.Author.Tests.{eq-eqb, ne-eqb, eqb-true, eqb-false}
 use Rattle.arithmetic.specs.Modulo.{add}
 use Rattle.polynomial.specs.Polynomial.{value}
 use Rattle.refusals.proofs.First.{choose-true, choose-false}
-use Rattle.sumcheck.specs.Protocol.{fits, Rounds, reached, failed, roundsFrom}
+use Rattle.sumcheck.specs.Protocol.{fits, reached, failed, roundsFrom}
 use Rattle.sumcheck.specs.Checker.{claimAfter, SumAgrees, SumsAgree}
 
 -- every sum agrees, or a first one fails

@@ -1,8 +1,8 @@
 -- The protocol's own course over inputs, with nothing refused: where it ends and what it answers. Assumes nothing.
 use mathlib.Core.Path.{_≡_, refl, sym, ap, ap₂, subst, _∙_}
 use mathlib.Core.Bool.{Bool, true, false}
-use mathlib.Core.List.{List, [], _∷_, _++_, map}
-use Prim.Native.Nat.{ℕ, zero, suc, _+_, _≤_, _<_}
+use mathlib.Core.List.{List, [], _∷_, _++_}
+use Prim.Native.Nat.{ℕ, zero, suc, _+_, _<_}
 use native.Mathlib.Nat.{add-zero, zero-add}
 use native.Mathlib.Omega.{arith}
 use lib.ListN.{length, length-map, replicate}
@@ -11,7 +11,7 @@ use Rattle.arithmetic.specs.Modulo.{add}
 use Rattle.polynomial.specs.Polynomial.{value}
 use Rattle.refusals.specs.First.{choose}
 use Rattle.refusals.proofs.First.{choose-true, choose-false}
-use Rattle.sumcheck.specs.Protocol.{fits, Rounds, reached, failed, rounds}
+use Rattle.sumcheck.specs.Protocol.{fits, reached, failed, rounds}
 use Rattle.sumcheck.specs.Checker.{claimAfter, SumAgrees, SumsAgree}
 use Rattle.sumcheck.specs.Steps.{State, fresh, Judged, fitted, rejects, onward, marked}
 use Rattle.sumcheck.specs.Sequences.{Input, challengesOf, messagesIn}

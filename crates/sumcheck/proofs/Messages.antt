@@ -1,13 +1,13 @@
 -- A lent message list as messages: how many they are, their lengths and elements; and messages one after the other taken apart again. Assumes nothing.
-use mathlib.Core.Path.{_≡_, refl, sym, ap, ap₂, _∙_}
+use mathlib.Core.Path.{_≡_, refl, ap, ap₂, _∙_}
 use mathlib.Core.List.{List, [], _∷_, _++_}
-use Prim.Native.Nat.{ℕ, zero, suc, _+_, _-_, _*_, _≤_, _<_}
+use Prim.Native.Nat.{ℕ, zero, suc, _+_, _-_, _*_, _<_}
 use native.Mathlib.Omega.{arith}
 use lib.ListN.{length, take, drop, length-append, length-drop}
 use lib.Seq.{length-take-le, take-at, drop-at}
 use Rattle.polynomial.specs.Elements.{Every, Elements}
 use Rattle.polynomial.proofs.Lists.{every-append}
-use Rattle.sumcheck.specs.Rounds.{truePolynomial, polynomialsAfter}
+use Rattle.sumcheck.specs.Rounds.{polynomialsAfter}
 use Rattle.sumcheck.specs.Lent.{parts, join}
 use Rattle.sumcheck.proofs.Rounds.{polynomial-length, polynomial-elements}
 

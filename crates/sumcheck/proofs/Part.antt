@@ -1,8 +1,7 @@
 -- The round part (specs/Part): what a call knows that was not refused, where the part lies, and that it is the message that the checker judges.
 -- Assumes nothing.
 use mathlib.Core.Path.{_≡_, refl, sym, ap, ap₂, _∙_}
-use mathlib.Core.Bool.{Bool, true, false}
-use mathlib.Core.List.{List, [], _∷_, _++_}
+use mathlib.Core.List.{List, []}
 use Prim.Native.Nat.{ℕ, zero, suc, _+_, _-_, _*_, _≤_, _<_}
 use native.Mathlib.Nat.{mul-le-mul-right}
 use native.Mathlib.Omega.{arith}
@@ -10,13 +9,11 @@ use lib.Dec.{eqb, ltb}
 use lib.ListN.{length, getD, take, drop}
 use lib.Seq.{drop-drop}
 use borrow.Author.Tests.{eqb-false, ltb-false, eq-eqb, ne-eqb}
-use Rattle.refusals.specs.Limits.{maxVars, maxDegree}
-use Rattle.refusals.specs.First.{Rule, first, choose}
 use Rattle.refusals.proofs.First.{choose-true, choose-false}
 use Rattle.refusals.proofs.Order.{untested, neither-left, neither-right}
 use Rattle.sumcheck.specs.Lent.{parts, messagesLength, messagesOf}
-use Rattle.sumcheck.specs.Part.{partRules, partRefusal, partStart, partLength, partOf}
-use Rattle.sumcheck.proofs.Unrefused.{vars-within, degree-within, is-long}
+use Rattle.sumcheck.specs.Part.{partRules, partRefusal, partStart, partOf}
+use Rattle.sumcheck.proofs.Unrefused.{is-long}
 
 -- the number of part j, from 0, of so many of one size
 pub parts-at : (count size : ℕ) (xs : List ℕ) (j : ℕ) → j < count → getD (parts count size xs) j [] ≡ take size (drop (j * size) xs)

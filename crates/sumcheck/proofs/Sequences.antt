@@ -1,6 +1,6 @@
 -- Any sequence of steps, refused ones among it, answers as the protocol does on the steps that were not refused (specs/Sequences). A refused step
 -- leaves the state; after a rejecting step all are refused. Assumes nothing.
-use mathlib.Core.Path.{_≡_, refl, sym, ap, ap₂, subst, _∙_}
+use mathlib.Core.Path.{_≡_, refl, sym, ap, subst, _∙_}
 use mathlib.Core.Bool.{Bool, true, false}
 use mathlib.Core.List.{List, [], _∷_, _++_}
 use Prim.Native.Nat.{ℕ, suc, _-_}
@@ -8,12 +8,12 @@ use native.Mathlib.Omega.{arith}
 use lib.Dec.{eqb}
 use lib.ListN.{length, length-map, replicate}
 use borrow.Author.Tests.{eqb-true, eqb-false}
-use Rattle.refusals.specs.First.{Rule, _when_, Answer, refused, given, decide, first, choose, outside}
+use Rattle.refusals.specs.First.{Answer, refused, first, choose}
 use Rattle.refusals.proofs.First.{decide-first}
 use Rattle.refusals.proofs.Order.{kept-by, decided-given, decided-refused}
-use Rattle.sumcheck.specs.Protocol.{fits, Rounds, reached, failed, rounds, Verdict, final}
+use Rattle.sumcheck.specs.Protocol.{fits, Rounds, rounds, final}
 use Rattle.sumcheck.specs.Checker.{claimAfter}
-use Rattle.sumcheck.specs.Steps.{State, Back, fresh, openingRules, opened, opening, Judged, fitted, rejects, stepRules, onward, marked, judged, moved, step, closingRules, closed, closing}
+use Rattle.sumcheck.specs.Steps.{State, Back, fresh, openingRules, opened, Judged, fitted, rejects, stepRules, onward, marked, judged, moved, closingRules, closed}
 use Rattle.sumcheck.specs.Sequences.{Input, endOf, outcomesOf, kept, givens, challengesOf, messagesIn, takenBy, rejectedBy, answersBy, keptOf, StepsFollow, ClosingFollows, RefusedKeeps, DoubtedAlike}
 use Rattle.sumcheck.proofs.Steps.{unrefused, stepRest, closingRest, step-refused, step-given}
 use Rattle.sumcheck.proofs.Followed.{follow, answers, stateAt, Ended, through, stopped, ended}

@@ -12,12 +12,12 @@ use Rattle.polynomial.specs.Elements.{Elements}
 use Rattle.polynomial.specs.Polynomial.{value}
 use Rattle.polynomial.specs.Array.{padded}
 use Rattle.refusals.specs.Limits.{maxVars, maxDegree}
-use Rattle.refusals.specs.First.{Rule, _when_, Answer, refused, given, decide, first, choose, either, outside}
+use Rattle.refusals.specs.First.{Rule, _when_, Answer, refused, given, first, choose, either, outside}
 use Rattle.refusals.proofs.First.{choose-true, choose-false}
 use Rattle.refusals.proofs.Order.{first-turned, first-passed, refused-by, given-by, kept-by, left-by, untested, neither-left, neither-right}
 use Rattle.sumcheck.specs.Protocol.{fits, Verdict, accepted, rejected, final, reached}
 use Rattle.sumcheck.specs.Lent.{notLong}
-use Rattle.sumcheck.specs.Steps.{State, Back, complete, over, forged, openingRules, Opened, opened, fresh, opening, Judged, fitted, rejects, stepRules, onward, marked, judged, moved, step, closingRules, closed, closing}
+use Rattle.sumcheck.specs.Steps.{State, Back, complete, over, forged, openingRules, opened, fresh, opening, fitted, rejects, stepRules, onward, marked, judged, moved, step, closingRules, closed, closing}
 use Rattle.sumcheck.proofs.Walk.{array-fits, array-value}
 use Rattle.sumcheck.proofs.Unrefused.{vars-within, degree-within, is-long, is-inside}
 

@@ -6,7 +6,7 @@ use mathlib.Core.List.{List, [], _∷_, _++_, map}
 use Prim.Native.Nat.{ℕ, suc, _*_, _^_, _%_, _<_}
 use native.Mathlib.Nat.{mod-lt}
 use lib.ListN.{length}
-use Rattle.polynomial.specs.Elements.{Every, Elements, sum}
+use Rattle.polynomial.specs.Elements.{Every, sum}
 use Rattle.polynomial.proofs.Lists.{sum-reduced}
 use Rattle.refusals.specs.First.{_when_, given, first, either, outside}
 use Rattle.refusals.proofs.First.{either-none, outside-append}
@@ -16,7 +16,7 @@ use Rattle.sumcheck.specs.Function.{f, trueSum}
 use Rattle.sumcheck.specs.Rounds.{truePolynomials}
 use Rattle.sumcheck.specs.Protocol.{accepted, verdict}
 use Rattle.sumcheck.specs.Lent.{parts, join, tablesLength, messagesLength, tablesOf, messagesOf, badVars, badDegree, notLong}
-use Rattle.sumcheck.specs.Entries.{checkerRules, checkerAnswer}
+use Rattle.sumcheck.specs.Entries.{checkerRules}
 use Rattle.sumcheck.specs.Demands.{Complete}
 use Rattle.sumcheck.specs.Checker.{WellLent, AnswerComplete}
 use Rattle.sumcheck.proofs.Completeness.{complete}

@@ -1,14 +1,14 @@
 -- What a call knows that was not refused: each test of specs/Lent that fails, as a fact; and the other way round. Assumes nothing.
-use mathlib.Core.Path.{_≡_, refl, sym, ap, _∙_}
-use mathlib.Core.Bool.{Bool, true, false, not}
+use mathlib.Core.Path.{_≡_, refl, ap}
+use mathlib.Core.Bool.{true, false, not}
 use mathlib.Core.List.{List, [], _∷_, _++_}
-use Prim.Native.Nat.{ℕ, suc, _≤_, _<_}
+use Prim.Native.Nat.{ℕ, _≤_, _<_}
 use native.Mathlib.Omega.{arith}
 use lib.Dec.{eqb, ltb, leb}
 use lib.ListN.{length}
 use borrow.Author.Tests.{ltb-false, leb-false, eqb-true, eqb-false, not-false, eq-eqb, ne-eqb, lt-leb}
 use Rattle.refusals.specs.Limits.{maxVars, maxDegree}
-use Rattle.refusals.specs.First.{Rule, _when_, first, either, outside}
+use Rattle.refusals.specs.First.{Rule, first, outside}
 use Rattle.refusals.proofs.First.{either-none}
 use Rattle.refusals.proofs.Order.{first-turned, first-passed, neither-left, neither-right}
 use Rattle.polynomial.specs.Elements.{Elements}

@@ -12,7 +12,7 @@ use lib.ListN.{getD}
 use Rattle.arithmetic.specs.Modulo.{add}
 use Rattle.arithmetic.specs.Prime.{Prime}
 use Rattle.polynomial.specs.Polynomial.{value}
-use Rattle.refusals.specs.First.{_when_, Answer, refused, given, first, either, outside}
+use Rattle.refusals.specs.First.{_when_, refused, given, first, either, outside}
 use Rattle.sumcheck.specs.Function.{f, trueSum}
 use Rattle.sumcheck.specs.Rounds.{truePolynomials}
 use Rattle.sumcheck.specs.Protocol.{accepted, rejected}

@@ -1,5 +1,4 @@
 -- The round part (document 01, "What is offered"): asked for round j, from 1, of a message list, the part of that list that is round j's message.
-use mathlib.Core.Bool.{Bool}
 use mathlib.Core.List.{List, [], _∷_}
 use Prim.Native.Nat.{ℕ, suc, _-_, _*_}
 use lib.Dec.{eqb, ltb}

@@ -17,7 +17,7 @@ use Rattle.sumcheck.specs.Protocol.{Rounds, reached, failed, rounds, Ver
 use Rattle.sumcheck.specs.Lent.{tablesOf, messagesOf}
 use Rattle.sumcheck.specs.Entries.{checkerRules, checkerAnswer, roundsRules, roundsAnswer}
 use Rattle.sumcheck.specs.Checker.{claimAfter}
-use Rattle.sumcheck.specs.Steps.{State, Back, fresh, opening, Judged, fitted, rejects, step, closing}
+use Rattle.sumcheck.specs.Steps.{State, fresh, opening, Judged, fitted, rejects, step, closing}
 
 -- what is given to a step
 pub record Input : Type 0 where

@@ -1,7 +1,7 @@
 -- The checker in steps (document 01, "What is offered" and "When a call is turned down"), over the modulus n: the state, opening, a step, closing.
 -- Each call hands the state back with its outcome; a refused call hands it back unchanged.
 use mathlib.Core.Bool.{Bool, true, false, not}
-use mathlib.Core.List.{List, [], _∷_, _++_}
+use mathlib.Core.List.{List, [], _∷_}
 use Prim.Native.Nat.{ℕ, suc}
 use lib.Dec.{eqb, ltb}
 use Rattle.polynomial.specs.Polynomial.{value}

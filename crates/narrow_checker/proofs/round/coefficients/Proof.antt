@@ -1,5 +1,5 @@
 -- `narrow_checker::round::coefficients` meets its contract: the first i coefficients stand in the array, with zeros on top. Assumes nothing.
-use mathlib.Core.Path.{_≡_, refl, sym, ap, _∙_}
+use mathlib.Core.Path.{_≡_, refl, ap, _∙_}
 use mathlib.Core.List.{List}
 use Prim.Native.Nat.{ℕ, suc, _-_, _≤_}
 use lib.ListN.{length, set, getD}

@@ -1,7 +1,8 @@
 -- `narrow_checker::round::value_at` meets its contract: the value so far is that of the coefficients from i on. Assumes nothing.
 use mathlib.Core.Path.{_≡_, _∙_}
-use Prim.Native.Nat.{_≤_}
+use Prim.Native.Nat.{suc, _≤_}
 use lib.ListN.{length, drop}
+use Rattle.refusals.specs.Limits.{maxDegree}
 use Rattle.polynomial.specs.Polynomial.{value}
 use Rattle.polynomial.proofs.Array.{value-above, value-down, value-whole}
 use Rattle.narrow_field.specs.Narrow.{p}
@@ -17,7 +18,7 @@ abbrev μ-loop : tie.MeasureT-loop
 μ-loop x c v₀ i₀ v i = i
 
 loop-holds : tie.Need-loop-holds Inv-loop μ-loop
-loop-holds c = (omega arith, value-above p (c .args .t1) (c .args .x) 4 (omega arith))
+loop-holds c = (omega arith, value-above p (c .args .t1) (c .args .x) (suc maxDegree) (omega arith))
 
 sub-i : tie.Need-sub-i Inv-loop μ-loop
 sub-i c = search needs

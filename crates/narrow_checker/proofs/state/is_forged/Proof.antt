@@ -1,7 +1,6 @@
 -- `narrow_checker::state::is_forged` meets its contract: one test after the other. Assumes nothing.
-use mathlib.Core.Path.{_≡_, sym, ap, _∙_}
-use mathlib.Core.Bool.{Bool, true, false}
-use lib.Dec.{eqb}
+use mathlib.Core.Path.{sym, _∙_}
+use mathlib.Core.Bool.{true, false}
 use borrow.Author.Tests.{lt-ltb, le-ltb}
 use Rattle.refusals.specs.First.{choose}
 use Rattle.refusals.proofs.First.{choose-true, choose-false, either-left}

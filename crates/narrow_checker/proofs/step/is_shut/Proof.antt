@@ -1,5 +1,5 @@
 -- `narrow_checker::step::is_shut` meets its contract: one test after the other. Assumes nothing.
-use mathlib.Core.Path.{sym, ap, _∙_}
+use mathlib.Core.Path.{sym, _∙_}
 use mathlib.Core.Bool.{true}
 use Rattle.refusals.proofs.First.{either-left, choose-false}
 use Rattle.sumcheck.specs.Steps.{over}

@@ -2,7 +2,6 @@
 use mathlib.Core.Path.{_≡_, refl, sym, ap, ap₂, _∙_}
 use Prim.Native.Nat.{ℕ, suc, _+_, _*_}
 use native.Mathlib.Numerals.{add-one}
-use lib.ListN.{length}
 use Rattle.refusals.specs.First.{given}
 use Rattle.refusals.proofs.Order.{refused-by, given-by}
 use Rattle.sumcheck.specs.Lent.{parts, messagesOf}

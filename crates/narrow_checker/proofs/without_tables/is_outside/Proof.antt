@@ -1,8 +1,8 @@
 -- `narrow_checker::without_tables::is_outside` meets its contract: one list after the other. Assumes nothing.
-use mathlib.Core.Path.{_≡_, sym, ap, _∙_}
+use mathlib.Core.Path.{sym, _∙_}
 use mathlib.Core.Bool.{true}
 use mathlib.Core.List.{[], _∷_, _++_}
-use Rattle.refusals.specs.First.{either, outside}
+use Rattle.refusals.specs.First.{outside}
 use Rattle.refusals.proofs.First.{choose-false, outside-append}
 use Rattle.refusals.proofs.Order.{outside-left, outside-right}
 use Rattle.narrow_field.specs.Narrow.{p}
