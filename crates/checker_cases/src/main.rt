@@ -9,11 +9,12 @@ mod steps;
 fn main() {
     lent::cases();
     lent::refusals();
-    lent::rounds_refusals();
     steps::openings();
     steps::accepted();
     steps::rejected();
-    forged::steps();
+    forged::steps(&[7, 2147483644]);
+    forged::more_steps(&[7, 2147483644]);
     forged::closings();
-    parts::cases();
+    forged::more_closings();
+    parts::cases(&[4, 0, 2147483645, 2147483629, 30, 2147483639]);
 }

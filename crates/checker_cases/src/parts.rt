@@ -12,14 +12,19 @@ fn show(label: &[u8], vars: u32, degree: u32, messages: &[u32], round: u32) {
     );
 }
 
-pub fn cases() {
-    let proof = [4u32, 0, 2147483645, 2147483629, 30, 2147483639];
-    show(b"part 1:", 2, 2, &proof, 1);
-    show(b"part 2:", 2, 2, &proof, 2);
-    show(b"part 0:", 2, 2, &proof, 0);
-    show(b"part 3:", 2, 2, &proof, 3);
-    show(b"part 0 of five numbers:", 2, 2, &proof[..5], 0);
-    show(b"part 1 of degree 4:", 2, 4, &proof, 1);
-    show(b"part 1 of vars 17:", 17, 4, &proof, 1);
-    show(b"part 3 of three rounds:", 3, 1, &proof, 3);
+pub fn cases(proof: &[u32]) {
+    show(b"part 1:", 2, 2, proof, 1);
+    show(b"part 2:", 2, 2, proof, 2);
+    show(b"part 0:", 2, 2, proof, 0);
+    show(b"part 3:", 2, 2, proof, 3);
+    show(
+        b"part 0 of five numbers:",
+        2,
+        2,
+        &[4, 0, 2147483645, 2147483629, 30],
+        0,
+    );
+    show(b"part 1 of degree 4:", 2, 4, proof, 1);
+    show(b"part 1 of vars 17:", 17, 4, proof, 1);
+    show(b"part 3 of three rounds:", 3, 1, proof, 3);
 }

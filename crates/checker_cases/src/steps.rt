@@ -35,18 +35,28 @@ fn closed(label: &[u8], state: State, value: u32) {
     show::verdict(label, outcome);
 }
 
-// P9, with a refused step between: its message is too short.
+// A complete state: no step is left, and closing compares.
+fn complete(state: State) {
+    taken(b"P9 round 3", state, &[4, 0, 2147483645], 3);
+    closed(b"P9 closed with 4", state, 4);
+    closed(b"P9 closed with 5", state, 5);
+    closed(b"P9 closed with p", state, P);
+}
+
+// After P9's first round: too early to close, and a refused step changes nothing.
+fn between(state: State) -> State {
+    closed(b"closed too early", state, 4);
+    taken(b"too short", state, &[4, 0], 1)
+}
+
+// P9.
 pub fn accepted() {
     let opened = State::open(2, 2, 6);
     let start = opened.state;
     let first = taken(b"P9 round 1", start, &[4, 0, 2147483645], 3);
-    closed(b"closed too early", first, 4);
-    let same = taken(b"too short", first, &[4, 0], 1);
+    let same = between(first);
     let second = taken(b"P9 round 2", same, &[2147483629, 30, 2147483639], 1);
-    taken(b"P9 round 3", second, &[4, 0, 2147483645], 3);
-    closed(b"P9 closed with 4", second, 4);
-    closed(b"P9 closed with 5", second, 5);
-    closed(b"P9 closed with p", second, P);
+    complete(second);
 }
 
 // P11: the second round rejects, and no step is taken after it.

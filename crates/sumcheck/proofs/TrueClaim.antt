@@ -2,23 +2,25 @@
 -- exact length and of elements, so nothing is refused, and taken apart they are themselves again. Assumes nothing.
 use mathlib.Core.Path.{_≡_, refl, sym, ap, ap₂, _∙_}
 use mathlib.Core.Bool.{false}
-use mathlib.Core.List.{List, [], _∷_, _++_, map}
+use mathlib.Core.List.{List, [], _∷_, _++_, map, append-nil}
 use Prim.Native.Nat.{ℕ, suc, _*_, _^_, _%_, _<_}
 use native.Mathlib.Nat.{mod-lt}
-use lib.ListN.{length}
+use lib.ListN.{length, drop}
+use lib.Seq.{drop-length}
+use borrow.Author.Tests.{eq-eqb}
 use Rattle.polynomial.specs.Elements.{Every, sum}
 use Rattle.polynomial.proofs.Lists.{sum-reduced}
 use Rattle.refusals.specs.First.{_when_, given, first, either, outside}
-use Rattle.refusals.proofs.First.{either-none, outside-append}
+use Rattle.refusals.proofs.First.{choose-true, either-none, outside-append}
 use Rattle.refusals.proofs.Order.{given-by, Untested, untested, untested-none, neither-left, neither-right, outside-none}
 use Rattle.sumcheck.specs.Corners.{corners}
 use Rattle.sumcheck.specs.Function.{f, trueSum}
 use Rattle.sumcheck.specs.Rounds.{truePolynomials}
 use Rattle.sumcheck.specs.Protocol.{accepted, verdict}
 use Rattle.sumcheck.specs.Lent.{parts, join, tablesLength, messagesLength, tablesOf, messagesOf, badVars, badDegree, notLong}
-use Rattle.sumcheck.specs.Entries.{checkerRules}
+use Rattle.sumcheck.specs.Entries.{proverRules, messagesAfter, checkerRules, checkerAnswer}
 use Rattle.sumcheck.specs.Demands.{Complete}
-use Rattle.sumcheck.specs.Checker.{WellLent, AnswerComplete}
+use Rattle.sumcheck.specs.Checker.{WellLent, AnswerComplete, ProverAccepted}
 use Rattle.sumcheck.proofs.Completeness.{complete}
 use Rattle.sumcheck.proofs.Unrefused.{is-long, long-is, inside-is}
 use Rattle.sumcheck.proofs.Messages.{parts-length, join-length, join-elements, parts-join, polynomials-length, polynomials-sizes, polynomials-elements}
@@ -112,3 +114,34 @@ answer-complete n h vars degree tables challenges z =
 
     p : List (List ℕ)
     p = truePolynomials n (tablesOf vars degree tables) challenges
+
+-- the prover leaves the true polynomials, and nothing behind them in a list of the exact length
+left : (n vars degree : ℕ) (tables challenges messages scratch : List ℕ) → first (proverRules n vars degree tables challenges messages scratch) ≡ 0
+    → length messages ≡ messagesLength vars degree
+    → messagesAfter n vars degree tables challenges messages scratch ≡ join (truePolynomials n (tablesOf vars degree tables) challenges)
+left n vars degree tables challenges messages scratch z e =
+    choose-true (proof ++ drop (messagesLength vars degree) messages) messages (eq-eqb (first (proverRules n vars degree tables challenges messages scratch)) 0 z)
+    ∙ (ap (λ (l : List ℕ). proof ++ l) (ap (λ (k : ℕ). drop k messages) (sym e) ∙ drop-length messages) ∙ append-nil proof)
+  where
+    proof : List ℕ
+    proof = join (truePolynomials n (tablesOf vars degree tables) challenges)
+
+-- what the prover does not refuse is well lent
+well-lent : (n vars degree : ℕ) (tables challenges messages scratch : List ℕ) → first (proverRules n vars degree tables challenges messages scratch) ≡ 0
+    → WellLent n vars degree tables challenges
+well-lent n vars degree tables challenges messages scratch z =
+    let u = untested (proverRules n vars degree tables challenges messages scratch) refl refl z in
+    sym
+    (untested-none
+    (1 when badVars vars
+    ∷ 2 when badDegree degree
+    ∷ 3 when either (notLong (tablesLength vars degree) tables) (notLong vars challenges)
+    ∷ 5 when outside n (tables ++ challenges)
+    ∷ [])
+    (u .0, (u .1 .0, (u .1 .1 .0, (u .1 .1 .1 .1 .0, tt)))))
+
+pub prover-accepted : ProverAccepted
+unfolding ProverAccepted AnswerComplete
+prover-accepted n h vars degree tables challenges messages scratch z e =
+    ap (checkerAnswer n vars degree tables (trueSum n (tablesOf vars degree tables) vars) challenges) (left n vars degree tables challenges messages scratch z e)
+    ∙ answer-complete n h vars degree tables challenges (well-lent n vars degree tables challenges messages scratch z)

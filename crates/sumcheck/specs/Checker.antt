@@ -4,11 +4,12 @@
 --   RefusesFirst     it refuses with a number exactly when that is the first refusal of document 01's order whose test holds
 --   AnswerSound      a false claim that it accepts had a lucky round (demand 3)
 --   AnswerComplete   a true claim is accepted with the true polynomials (demand 3)
+--   ProverAccepted   the messages that the prover leaves in a list of the exact length are accepted
 --   AnswerCertain    with no variables it accepts true claims only
 use mathlib.Core.Path.{_≡_}
 use mathlib.Core.List.{List, [], _∷_, _++_}
 use Prim.Native.Nat.{ℕ, zero, suc, _<_}
-use lib.ListN.{getD}
+use lib.ListN.{length, getD}
 use Rattle.arithmetic.specs.Modulo.{add}
 use Rattle.arithmetic.specs.Prime.{Prime}
 use Rattle.polynomial.specs.Polynomial.{value}
@@ -16,8 +17,8 @@ use Rattle.refusals.specs.First.{_when_, refused, given, first, either, outside
 use Rattle.sumcheck.specs.Function.{f, trueSum}
 use Rattle.sumcheck.specs.Rounds.{truePolynomials}
 use Rattle.sumcheck.specs.Protocol.{accepted, rejected}
-use Rattle.sumcheck.specs.Lent.{join, tablesLength, tablesOf, messagesOf, badVars, badDegree, notLong}
-use Rattle.sumcheck.specs.Entries.{checkerRules, checkerAnswer}
+use Rattle.sumcheck.specs.Lent.{join, tablesLength, messagesLength, tablesOf, messagesOf, badVars, badDegree, notLong}
+use Rattle.sumcheck.specs.Entries.{proverRules, messagesAfter, checkerRules, checkerAnswer}
 use Rattle.sumcheck.specs.Demands.{Lucky}
 
 -- c0 is the claim, and cj is the message of round j at its challenge (document 01, "What is offered"); rounds stand at places from 0
@@ -80,6 +81,12 @@ WellLent n vars degree tables challenges =
 unfoldable pub AnswerComplete : Type 0
 AnswerComplete = (n : ℕ) → 0 < n → (vars degree : ℕ) (tables challenges : List ℕ) → WellLent n vars degree tables challenges
     → checkerAnswer n vars degree tables (trueSum n (tablesOf vars degree tables) vars) challenges (join (truePolynomials n (tablesOf vars degree tables) challenges))
+    ≡ given accepted
+
+unfoldable pub ProverAccepted : Type 0
+ProverAccepted = (n : ℕ) → 0 < n → (vars degree : ℕ) (tables challenges messages scratch : List ℕ)
+    → first (proverRules n vars degree tables challenges messages scratch) ≡ 0 → length messages ≡ messagesLength vars degree
+    → checkerAnswer n vars degree tables (trueSum n (tablesOf vars degree tables) vars) challenges (messagesAfter n vars degree tables challenges messages scratch)
     ≡ given accepted
 
 unfoldable pub AnswerCertain : Type 0
