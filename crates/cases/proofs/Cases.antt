@@ -14,7 +14,10 @@ use Rattle.refusals.specs.First.{Answer, refused, given}
 use Rattle.sumcheck.specs.Lent.{parts}
 use Rattle.sumcheck.specs.Entries.{checkerAnswer}
 use Rattle.sumcheck.specs.Protocol.{Rounds, reached, failed, rounds, Verdict, accepted, rejected, verdict}
-use Rattle.cases.specs.Cases.{Case, sum, at, round, check, lent, last, Holds, cases, EveryCase}
+use Rattle.layout.specs.Number.{decimal, digits}
+use Rattle.layout.specs.Line.{lineAt, form, numbersOf}
+use Rattle.layout.specs.Answer.{answer, fromEdition, fromField, fromVars, fromDegree, fromClaim, fromRounds, fromEnd, linesAt}
+use Rattle.cases.specs.Cases.{Case, sum, at, round, check, lent, last, read, checkFile, fileRounds, Holds, cases, EveryCase}
 
 abbrev both : Bool → Bool → Bool
 both true b = b
@@ -65,17 +68,18 @@ sameRounds-equal (reached a) (failed j) t = absurd t
 sameRounds-equal (failed i) (reached b) t = absurd t
 sameRounds-equal (failed i) (failed j) t = ap failed (eqb→eq i j t)
 
-abbrev sameAnswer : Answer Verdict → Answer Verdict → Bool
-sameAnswer (given a) (given b) = sameVerdict a b
-sameAnswer (given a) (refused j) = false
-sameAnswer (refused i) (given b) = false
-sameAnswer (refused i) (refused j) = eqb i j
+-- answers, by a test of what is given
+abbrev sameAnswer : {A : Type 0} → (A → A → Bool) → Answer A → Answer A → Bool
+sameAnswer same (given a) (given b) = same a b
+sameAnswer same (given a) (refused j) = false
+sameAnswer same (refused i) (given b) = false
+sameAnswer same (refused i) (refused j) = eqb i j
 
-sameAnswer-equal : (a b : Answer Verdict) → T (sameAnswer a b) → a ≡ b
-sameAnswer-equal (given a) (given b) t = ap given (sameVerdict-equal a b t)
-sameAnswer-equal (given a) (refused j) t = absurd t
-sameAnswer-equal (refused i) (given b) t = absurd t
-sameAnswer-equal (refused i) (refused j) t = ap refused (eqb→eq i j t)
+sameAnswer-equal : {A : Type 0} (same : A → A → Bool) → ((a b : A) → T (same a b) → a ≡ b) → (a b : Answer A) → T (sameAnswer same a b) → a ≡ b
+sameAnswer-equal same equal (given a) (given b) t = ap given (equal a b t)
+sameAnswer-equal same equal (given a) (refused j) t = absurd t
+sameAnswer-equal same equal (refused i) (given b) t = absurd t
+sameAnswer-equal same equal (refused i) (refused j) t = ap refused (eqb→eq i j t)
 
 -- the test of a case
 abbrev test : Case → Bool
@@ -83,16 +87,24 @@ test (sum n ts vars answer) = eqb (trueSum n ts vars) answer
 test (at n ts point answer) = eqb (f n ts point) answer
 test (round n ts rs rest answer) = sameList (truePolynomial n ts rs rest) answer
 test (check n ts claim rs ms answer) = sameVerdict (verdict n ts claim rs ms) answer
-test (lent n vars degree ts claim rs ms a) = sameAnswer (checkerAnswer n vars degree ts claim rs ms) a
+test (lent n vars degree ts claim rs ms a) = sameAnswer sameVerdict (checkerAnswer n vars degree ts claim rs ms) a
 test (last n claim rs ms answer) = sameRounds (rounds n claim rs ms) answer
+test (read n layout bytes ts rs a end) =
+    both (sameAnswer sameVerdict (checkFile n layout bytes ts rs) a) (sameAnswer sameRounds (fileRounds n layout bytes rs) end)
 
 tested : (c : Case) → T (test c) → Holds c
 tested (sum n ts vars answer) t = eqb→eq (trueSum n ts vars) answer t
 tested (at n ts point answer) t = eqb→eq (f n ts point) answer t
 tested (round n ts rs rest answer) t = sameList-equal (truePolynomial n ts rs rest) answer t
 tested (check n ts claim rs ms answer) t = sameVerdict-equal (verdict n ts claim rs ms) answer t
-tested (lent n vars degree ts claim rs ms a) t = sameAnswer-equal (checkerAnswer n vars degree ts claim rs ms) a t
+tested (lent n vars degree ts claim rs ms a) t = sameAnswer-equal sameVerdict sameVerdict-equal (checkerAnswer n vars degree ts claim rs ms) a t
 tested (last n claim rs ms answer) t = sameRounds-equal (rounds n claim rs ms) answer t
+tested (read n layout bytes ts rs a end) t =
+    let one = sameAnswer sameVerdict (checkFile n layout bytes ts rs) a in
+    let two = sameAnswer sameRounds (fileRounds n layout bytes rs) end in (
+      sameAnswer-equal sameVerdict sameVerdict-equal (checkFile n layout bytes ts rs) a (left one two t),
+      sameAnswer-equal sameRounds sameRounds-equal (fileRounds n layout bytes rs) end (right one two t),
+    )
 
 abbrev tests : List Case → Bool
 tests [] = true
@@ -104,4 +116,5 @@ every-tested (c ∷ cs) t = (tested c (left (test c) (tests cs) t), every-tested
 
 pub every-case : EveryCase
 unfolding EveryCase
-every-case = every-tested cases (unfold corners pow parts in tt)
+every-case = every-tested cases
+    (unfold corners pow parts answer fromEdition fromField fromVars fromDegree fromClaim fromRounds fromEnd linesAt lineAt form numbersOf decimal digits in tt)

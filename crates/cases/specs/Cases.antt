@@ -7,8 +7,12 @@ use Rattle.sumcheck.specs.Function.{f, trueSum}
 use Rattle.sumcheck.specs.Rounds.{truePolynomial}
 use Rattle.refusals.specs.First.{Answer, refused, given}
 use Rattle.sumcheck.specs.Lent.{join}
-use Rattle.sumcheck.specs.Entries.{checkerAnswer}
+use Rattle.sumcheck.specs.Entries.{checkerAnswer, roundsAnswer}
 use Rattle.sumcheck.specs.Protocol.{Rounds, reached, failed, rounds, Verdict, accepted, rejected, verdict}
+use Rattle.layout.specs.Answer as Layout
+use Rattle.layout.specs.Answer.{Layout, file, answer}
+use Rattle.narrow_file.specs.Narrow.{narrow}
+use Rattle.narrow_file.specs.Example.{wholeFile}
 
 -- a case: the modulus, the tables, what is asked, and the answer
 pub data Case : Type 0 where
@@ -24,6 +28,20 @@ pub data Case : Type 0 where
   lent : (n vars degree : ℕ) (tables : List ℕ) (claim : ℕ) (challenges messages : List ℕ) (answer : Answer Verdict) → Case
   -- what the rounds come to, without tables
   last : (n claim : ℕ) (challenges : List ℕ) (messages : List (List ℕ)) (answer : Rounds) → Case
+  -- a file's bytes, read and then checked: the checker's answer, and what the rounds come to
+  read : (n : ℕ) (layout : Layout) (bytes tables challenges : List ℕ) (answer : Answer Verdict) (end : Answer Rounds) → Case
+
+-- the checker's answers on what was read
+abbrev pub onFile : {A : Type 0} → (ℕ → ℕ → ℕ → List ℕ → Answer A) → Layout.Answer → Answer A
+onFile judged (file vars degree claim messages) = judged vars degree claim messages
+onFile judged (Layout.refused number line) = refused number
+
+abbrev pub checkFile : ℕ → Layout → List ℕ → List ℕ → List ℕ → Answer Verdict
+checkFile n layout bytes tables challenges =
+    onFile (λ vars degree claim messages. checkerAnswer n vars degree tables claim challenges messages) (answer layout bytes)
+
+abbrev pub fileRounds : ℕ → Layout → List ℕ → List ℕ → Answer Rounds
+fileRounds n layout bytes challenges = onFile (λ vars degree claim messages. roundsAnswer n vars degree claim challenges messages) (answer layout bytes)
 
 -- what a case says
 abbrev pub Holds : Case → Type 0
@@ -33,6 +51,7 @@ Holds (round n tables challenges rest answer) = truePolynomial n tables challeng
 Holds (check n tables claim challenges messages answer) = verdict n tables claim challenges messages ≡ answer
 Holds (lent n vars degree tables claim challenges messages a) = checkerAnswer n vars degree tables claim challenges messages ≡ a
 Holds (last n claim challenges messages answer) = rounds n claim challenges messages ≡ answer
+Holds (read n layout bytes tables challenges a end) = (checkFile n layout bytes tables challenges ≡ a) × (fileRounds n layout bytes challenges ≡ end)
 
 -- 2^31 - 1
 abbrev p : ℕ
@@ -72,6 +91,8 @@ cases =
     -- P9: challenges 3, 1; the last value is 4
     ∷ check p (u ∷ t ∷ []) 6 (3 ∷ 1 ∷ []) proof accepted
     ∷ last p 6 (3 ∷ 1 ∷ []) proof (reached 4)
+    -- P9 from the file's bytes
+    ∷ read p narrow wholeFile (u ++ t) (3 ∷ 1 ∷ []) (given accepted) (given (reached 4))
     -- P10: challenges 0, 9; P11: challenges 5, 9
     ∷ sum p (t ∷ []) 2 10
     ∷ check p (t ∷ []) 11 (0 ∷ 9 ∷ []) lie accepted
