@@ -10,7 +10,7 @@ use narrow_field::modulo::plus;
 use narrow_field::modulo::times;
 
 // The line with the values low at 0 and high at 1, times a polynomial; what goes past the array is cut off.
-pub fn line_times(c: [u32; 4], low: u32, high: u32) -> [u32; 4]
+pub(crate) fn line_times(c: [u32; 4], low: u32, high: u32) -> [u32; 4]
     ensures { λ r. ⌜ r ≡ lineTimes p low (sub p high low) 0 c ⌝ }
 {
     let slope = less(high, low);
@@ -23,7 +23,7 @@ pub fn line_times(c: [u32; 4], low: u32, high: u32) -> [u32; 4]
 }
 
 // The sum of two polynomials.
-pub fn added(a: [u32; 4], b: [u32; 4]) -> [u32; 4]
+pub(crate) fn added(a: [u32; 4], b: [u32; 4]) -> [u32; 4]
     ensures { λ r. ⌜ r ≡ plusOf p a b ⌝ }
 {
     [

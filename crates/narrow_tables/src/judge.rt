@@ -1,12 +1,13 @@
 // Judging what is lent (document 01, "When a call is turned down"): each test of the table of refusals once. Every function takes every input.
 ghost use mathlib.Core.Path.{_≡_};
+ghost use mathlib.Core.Bool.{not};
 ghost use mathlib.Core.List.{[], _∷_};
 ghost use Prim.Native.Nat.{_*_, _^_, _≤_, min};
+ghost use lib.Dec.{eqb};
 ghost use lib.ListN.{length};
 ghost use Rattle.refusals.specs.Limits.{maxVars};
 ghost use Rattle.refusals.specs.First.{_when_, first, outside};
-ghost use Rattle.sumcheck.specs.Lent.{badVars, badDegree, firstOutside};
-ghost use Rattle.sumcheck.proofs.Answers.{tablesRules};
+ghost use Rattle.sumcheck.specs.Lent.{badVars, badDegree, firstOutside, tablesLength};
 ghost use Rattle.narrow_field.specs.Narrow.{p};
 use narrow_field::P;
 use refusals::MAX_DEGREE;
@@ -46,7 +47,7 @@ pub fn size(vars: u32) -> usize
 
 // Refusals 1, 2, and 3 for tables of so many numbers; 0 if none.
 pub fn tables(vars: u32, degree: u32, long: usize) -> u32
-    ensures { λ r. ⌜ r ≡ first (tablesRules vars degree long) ⌝ }
+    ensures { λ r. ⌜ r ≡ first (1 when badVars vars ∷ 2 when badDegree degree ∷ 3 when not (eqb long (tablesLength vars degree)) ∷ []) ⌝ }
 {
     let refusal = shape(vars, degree);
     if refusal != 0 {
