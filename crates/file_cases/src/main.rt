@@ -58,8 +58,8 @@ fn show(case: u32, bytes: &[u8]) {
     io::write_all(1, b"\n");
 }
 
-// The cases of document 01, and numbers.
-fn cases_1() {
+// The file of document 01, and its damaged copies.
+fn document() {
     // The whole file of document 01.
     show(
         1,
@@ -82,6 +82,10 @@ fn cases_1() {
         5,
         b"sumproof=1\nfield=2147483647\nvars=2\ndegree=2\nclaim=6\nround=4,0,2147483645\nround=2147483629,30,2147483639\nend=2",
     );
+}
+
+// Claims with a leading 0, at the modulus and below it, and of ten digits.
+fn claims() {
     // A leading 0.
     show(
         6,
@@ -102,6 +106,10 @@ fn cases_1() {
         9,
         b"sumproof=1\nfield=2147483647\nvars=2\ndegree=2\nclaim=9999999999\nround=4,0,2147483645\nround=2147483629,30,2147483639\nend=2\n",
     );
+}
+
+// Numbers too long, above 32 bits, missing, and 0.
+fn numbers() {
     // A number of 11 digits.
     show(
         10,
@@ -112,10 +120,6 @@ fn cases_1() {
         11,
         b"sumproof=1\nfield=2147483647\nvars=2\ndegree=2\nclaim=4294967296\nround=4,0,2147483645\nround=2147483629,30,2147483639\nend=2\n",
     );
-}
-
-// Numbers that are not allowed, and lines not of their form.
-fn cases_2() {
     // No number at all.
     show(
         12,
@@ -126,6 +130,10 @@ fn cases_2() {
         13,
         b"sumproof=1\nfield=2147483647\nvars=2\ndegree=2\nclaim=0\nround=4,0,2147483645\nround=2147483629,30,2147483639\nend=2\n",
     );
+}
+
+// Heads that are not allowed.
+fn heads() {
     // Edition 2.
     show(
         14,
@@ -151,6 +159,10 @@ fn cases_2() {
         18,
         b"sumproof=1\nfield=2147483647\nvars=2\ndegree=4\nclaim=6\nround=4,0,2147483645\nround=2147483629,30,2147483639\nend=2\n",
     );
+}
+
+// Ends, trailing bytes, and the order of 10 and 12.
+fn orders() {
     // An end that says less.
     show(
         19,
@@ -171,15 +183,15 @@ fn cases_2() {
         22,
         b"sumproof=1\nfield=2147483647\nvars=2\ndegree=2\nclaim=6\nround=2147483647,0,2147483645,\nround=2147483629,30,2147483639\nend=2\n",
     );
-}
-
-// Small files, and counts that the rounds do not bear out.
-fn cases_3() {
     // The modulus as a claim, without a line end: 10 before 12.
     show(
         23,
         b"sumproof=1\nfield=2147483647\nvars=2\ndegree=2\nclaim=2147483647",
     );
+}
+
+// Counts of numbers in a round.
+fn counts() {
     // One number too many in a round.
     show(
         24,
@@ -190,6 +202,10 @@ fn cases_3() {
         25,
         b"sumproof=1\nfield=2147483647\nvars=2\ndegree=2\nclaim=6\nround=4,2147483645\nround=2147483629,30,2147483639\nend=2\n",
     );
+}
+
+// Small files.
+fn small() {
     // No variables: no rounds.
     show(
         26,
@@ -205,6 +221,10 @@ fn cases_3() {
         28,
         b"sumproof=1\nfield=2147483647\nvars=1\ndegree=3\nclaim=1\nround=0,1,2,3\nend=1\n",
     );
+}
+
+// Lines not of their form.
+fn forms() {
     // Line ends of two bytes.
     show(
         29,
@@ -220,6 +240,10 @@ fn cases_3() {
         31,
         b"sumproof=1\nfield=2147483647\ndegree=2\nvars=2\nclaim=6\nround=4,0,2147483645\nround=2147483629,30,2147483639\nend=2\n",
     );
+}
+
+// A head that says sixteen, and nine rounds.
+fn nine_rounds() {
     // vars says 16, and there are nine rounds.
     show(
         32,
@@ -230,6 +254,19 @@ fn cases_3() {
         33,
         b"sumproof=1\nfield=2147483647\nvars=16\ndegree=1\nclaim=10\nround=7,2147483644\nround=7,2147483644\nround=7,2147483644\nround=7,2147483644\nround=7,2147483644\nround=7,2147483644\nround=7,2147483644\nround=7,2147483644\nround=7,2147483644\n",
     );
+}
+
+// All of these.
+fn worked() {
+    document();
+    claims();
+    numbers();
+    heads();
+    orders();
+    counts();
+    small();
+    forms();
+    nine_rounds();
 }
 
 // A number for what was written: 0 if nothing was.
@@ -433,9 +470,7 @@ fn sizes() {
 }
 
 fn main() {
-    cases_1();
-    cases_2();
-    cases_3();
+    worked();
     truncations();
     changes();
     lines();

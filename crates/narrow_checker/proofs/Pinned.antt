@@ -1,8 +1,9 @@
--- No two answers say the same (specs/Said, Pins): so each promise, which is an equation of what is said, leaves one answer. Assumes nothing.
+-- No two answers say the same (refusals, specs/Pinned). Assumes nothing.
 use mathlib.Core.Path.{refl, ap, ap₂}
+use Rattle.refusals.specs.Pinned.{Pins}
 use Rattle.sumcheck.specs.Protocol as Protocol
 use Rattle.sumcheck.specs.Steps as Steps
-use Rattle.narrow_checker.specs.Said.{said, saidRounds, stateOf, saidOpening, saidOpened, saidStep, saidStepped, saidClosed, Pins}
+use Rattle.narrow_checker.specs.Said.{said, saidRounds, stateOf, saidOpening, saidOpened, saidStep, saidStepped, saidClosed}
 use Rattle.narrow_checker.specs.declared.Verdict.{Verdict}
 use Rattle.narrow_checker.specs.declared.Verdict.the-variants.{Accepted, Rejected, Refused}
 use Rattle.narrow_checker.specs.declared.Rounds.the-variants as R

@@ -1,5 +1,4 @@
 -- The code's answers in document 01's terms: for each enum and each struct the definition that gives the document's number and values.
-use mathlib.Core.Path.{_≡_}
 use Rattle.refusals.specs.First.{Answer, refused, given}
 use Rattle.sumcheck.specs.Protocol as Protocol
 use Rattle.sumcheck.specs.Protocol.{accepted, rejected, reached, failed}
@@ -52,7 +51,3 @@ saidStepped r = record { state = stateOf (r .state); outcome = saidStep (r .outc
 
 abbrev pub saidClosed : Closed → Back Protocol.Verdict
 saidClosed r = record { state = stateOf (r .state); outcome = said (r .outcome) }
-
--- no two answers say the same: a promise that what is said equals something leaves one answer
-abbrev pub Pins : {R A : Type 0} → (R → A) → Type 0
-Pins {R} says = (r r' : R) → says r ≡ says r' → r ≡ r'

@@ -10,6 +10,7 @@
 --   Pour      the second pass from some place on
 --   Cases     the document's file cases hold of the definitions
 --   Replies   the reply, from what the first pass tells
+--   Pinned    no two answers say the same
 pub mod Paths
 pub mod Machine
 pub mod Verdict
@@ -21,3 +22,4 @@ pub mod Rounds
 pub mod Pour
 pub mod Replies
 pub mod Cases
+pub mod Pinned

@@ -11,9 +11,7 @@ use Rattle.layout.specs.Answer.{file, refused, answer}
 use Rattle.layout.proofs.Answers.{file-count}
 use Rattle.narrow_file.specs.declared.lines.Judged.{Judged}
 use Rattle.narrow_file.specs.declared.lines.Judged.the-variants.{File, Refused}
-use Rattle.narrow_file.specs.declared.Reply.{Reply}
-use Rattle.narrow_file.specs.declared.Reply.the-variants as Reply
-use Rattle.narrow_file.specs.Narrow.{narrow, readAnswer, after, Head, head, refusal, told, said}
+use Rattle.narrow_file.specs.Narrow.{narrow, readAnswer, after, Head, head, refusal, told}
 use Rattle.narrow_file.specs.Passes.{collect, put, saidJudged}
 
 -- a reply and a list are what the answer asks for
@@ -46,17 +44,3 @@ module _ (bytes list : List ℕ) (r : Judged) (says : saidJudged bytes r ≡ ans
           rw (is-file, t),
           o ∙ (ap (λ (m : ℕ). put (take m (collect 0 (drop at bytes))) list) f ∙ (ap (λ (m : ℕ). cs ++ drop m list) n ∙ sym (rw (is-file, t)))),
         )
-
--- no second reply satisfies the promise: replies that say the same are the same
-pub one-reply : (r s : Reply) → said r ≡ said s → r ≡ s
-one-reply (Reply.File v d c) (Reply.File w e b) h =
-    let p : v ≡ w = cc in
-    let q : d ≡ e = cc in
-    let t : c ≡ b = cc in
-    cc
-one-reply (Reply.File v d c) (Reply.Refused n l) h = absurd (let z : _≡_ {A = ℕ} 0 1 = cc in omega arith)
-one-reply (Reply.Refused n l) (Reply.File v d c) h = absurd (let z : _≡_ {A = ℕ} 0 1 = cc in omega arith)
-one-reply (Reply.Refused n l) (Reply.Refused m k) h =
-    let p : n ≡ m = cc in
-    let q : l ≡ k = cc in
-    cc

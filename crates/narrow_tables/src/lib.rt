@@ -1,4 +1,3 @@
-// Lent tables over the narrow field (document 01): `judge` turns down what is lent, `value` has the true sum and the value of f at a point,
-// `prove` the prover.
+// Lent tables over the narrow field (document 01): `judge` turns down what is lent, `value` has the true sum and the value of f at a point.
 pub mod judge;
 pub mod value;
