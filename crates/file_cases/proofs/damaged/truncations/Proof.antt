@@ -1,10 +1,10 @@
--- `file_cases::truncations` meets its contract: a length is at most that of the file. Assumes nothing.
+-- `file_cases::damaged::truncations` meets its contract: a length is at most that of the file. Assumes nothing.
 use Prim.Native.Nat.{_-_, _≤_}
 use native.Mathlib.Omega.{arith}
 use mathlib.Core.Path.{_≡_}
 use lib.ListN.{length}
-use Rattle.file_cases.proofs.truncations.Statement.{statement}
-use Rattle.file_cases.proofs.truncations.Tie as tie
+use Rattle.file_cases.proofs.damaged.truncations.Statement.{statement}
+use Rattle.file_cases.proofs.damaged.truncations.Tie as tie
 
 abbrev Inv-loop : tie.InvT-loop
 Inv-loop file n₀ t3 n = (n ≤ 111) × (length file ≡ 110) × (length t3 ≡ 1)

@@ -1,10 +1,10 @@
--- `file_cases::lines` meets its contract: the places of two line starts are within the file. Assumes nothing.
+-- `file_cases::damaged::lines` meets its contract: the places of two line starts are within the file. Assumes nothing.
 use Prim.Native.Nat.{_-_, _≤_}
 use native.Mathlib.Omega.{arith}
 use mathlib.Core.Path.{_≡_}
 use lib.ListN.{length}
-use Rattle.file_cases.proofs.lines.Statement.{statement}
-use Rattle.file_cases.proofs.lines.Tie as tie
+use Rattle.file_cases.proofs.damaged.lines.Statement.{statement}
+use Rattle.file_cases.proofs.damaged.lines.Tie as tie
 
 abbrev Inv-loop : tie.InvT-loop
 Inv-loop file k₀ t5 k = (k ≤ 8) × (length file ≡ 110) × (length t5 ≡ 1)

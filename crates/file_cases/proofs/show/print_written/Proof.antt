@@ -1,10 +1,10 @@
--- `file_cases::print_written` meets its contract: the place stays within the list. Assumes nothing.
+-- `file_cases::show::print_written` meets its contract: the place stays within the list. Assumes nothing.
 use Prim.Native.Nat.{_-_, _≤_}
 use lib.ListN.{length}
 use native.Mathlib.Omega.{arith}
 use borrow.Author.Needs.{needs}
-use Rattle.file_cases.proofs.print_written.Statement.{statement}
-use Rattle.file_cases.proofs.print_written.Tie as tie
+use Rattle.file_cases.proofs.show.print_written.Statement.{statement}
+use Rattle.file_cases.proofs.show.print_written.Tie as tie
 
 abbrev Inv-loop : tie.InvT-loop
 Inv-loop messages i₀ i = i ≤ length messages

@@ -1,8 +1,8 @@
--- `file_cases::rooms` meets its contract: each list has at most 8 places. Assumes nothing.
+-- `file_cases::damaged::rooms` meets its contract: each list has at most 8 places. Assumes nothing.
 use Prim.Native.Nat.{_-_, _≤_}
 use native.Mathlib.Omega.{arith}
-use Rattle.file_cases.proofs.rooms.Statement.{statement}
-use Rattle.file_cases.proofs.rooms.Tie as tie
+use Rattle.file_cases.proofs.damaged.rooms.Statement.{statement}
+use Rattle.file_cases.proofs.damaged.rooms.Tie as tie
 
 abbrev Inv-loop : tie.InvT-loop
 Inv-loop places₀ places = places ≤ 9

@@ -1,8 +1,8 @@
--- `file_cases::changes` meets its contract: each place is below 110. Assumes nothing.
+-- `file_cases::damaged::changes` meets its contract: each place is below 110. Assumes nothing.
 use Prim.Native.Nat.{_-_, _≤_}
 use native.Mathlib.Omega.{arith}
-use Rattle.file_cases.proofs.changes.Statement.{statement}
-use Rattle.file_cases.proofs.changes.Tie as tie
+use Rattle.file_cases.proofs.damaged.changes.Statement.{statement}
+use Rattle.file_cases.proofs.damaged.changes.Tie as tie
 
 abbrev Inv-loop : tie.InvT-loop
 Inv-loop place₀ place = place ≤ 110

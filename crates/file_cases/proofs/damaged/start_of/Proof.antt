@@ -1,10 +1,10 @@
--- `file_cases::start_of` meets its contract: the place stays within the bytes. Assumes nothing.
+-- `file_cases::damaged::start_of` meets its contract: the place stays within the bytes. Assumes nothing.
 use Prim.Native.Nat.{_-_, _≤_}
 use lib.ListN.{length}
 use native.Mathlib.Omega.{arith}
 use mathlib.Core.Logic.{⊎-elim}
-use Rattle.file_cases.proofs.start_of.Statement.{statement}
-use Rattle.file_cases.proofs.start_of.Tie as tie
+use Rattle.file_cases.proofs.damaged.start_of.Statement.{statement}
+use Rattle.file_cases.proofs.damaged.start_of.Tie as tie
 
 abbrev Inv-loop : tie.InvT-loop
 Inv-loop bytes lines seen₀ i₀ seen i = (seen ≤ i) × (i ≤ length bytes)

@@ -1,11 +1,11 @@
--- `file_cases::copy_in` meets its contract: the place stays within the list, whose length stays. Assumes nothing.
+-- `file_cases::damaged::copy_in` meets its contract: the place stays within the list, whose length stays. Assumes nothing.
 use Prim.Native.Nat.{_-_, _≤_}
 use lib.ListN.{length}
 use native.Mathlib.Omega.{arith}
 use mathlib.Core.Path.{_≡_}
 use lib.ListN.{length-set}
-use Rattle.file_cases.proofs.copy_in.Statement.{statement}
-use Rattle.file_cases.proofs.copy_in.Tie as tie
+use Rattle.file_cases.proofs.damaged.copy_in.Statement.{statement}
+use Rattle.file_cases.proofs.damaged.copy_in.Tie as tie
 
 abbrev Inv-loop : tie.InvT-loop
 Inv-loop bytes list₀ at i₀ k₀ list i k = (k ≤ length list) × (length list ≡ length list₀) × (i ≤ length bytes)

@@ -1,10 +1,10 @@
--- `file_cases::sum_written` meets its contract: a remainder by 997 is below 1,000. Assumes nothing.
+-- `file_cases::damaged::sum_written` meets its contract: a remainder by 997 is below 1,000. Assumes nothing.
 use Prim.Native.Nat.{_-_, _≤_, _<_}
 use lib.ListN.{length}
 use native.Mathlib.Omega.{arith}
 use mathlib.Core.Logic.{⊎-elim}
-use Rattle.file_cases.proofs.sum_written.Statement.{statement}
-use Rattle.file_cases.proofs.sum_written.Tie as tie
+use Rattle.file_cases.proofs.damaged.sum_written.Statement.{statement}
+use Rattle.file_cases.proofs.damaged.sum_written.Tie as tie
 
 abbrev Inv-loop : tie.InvT-loop
 Inv-loop messages sum₀ i₀ sum i = (sum < 1000) × (i ≤ length messages)
