@@ -4,7 +4,7 @@ usage: python3 oracle.py [SEED]
 
 It takes a sample of the inputs that `second inputs SEED` makes, lets `gp`
 work out each answer from the definitions in oracle.gp, and compares with what
-`second answers` says. Build first: cargo build --release. ORACLE.md tells what
+`second answers` says. Build first: cargo build --release. docs/ORACLE.md tells what
 was compared and what came out.
 """
 
