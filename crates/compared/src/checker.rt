@@ -78,7 +78,7 @@ pub fn rounds(c: Cursor, chunk: &mut [u8], challenges: &mut [u32], messages: &mu
     claimed(head.first, head.second, before, chunk, challenges, messages)
 }
 
-// Where a round's part starts, for a degree from 1 to 3; 0 where there is none.
+// Where a round's part starts, for a degree from 1 to 3; 0 where there is none. The library hands out the part, and its start is worked out here.
 fn start_of(degree: u32, round: u32) -> u32 {
     if round == 0 {
         return 0;

@@ -130,6 +130,7 @@ fn lines(
     }
 }
 
+// Room for the longest lists, lent to every case.
 fn main() {
     let mut chunk = [0u8; 65536];
     let mut first = [0u32; 196616];
