@@ -4,6 +4,7 @@ use mathlib.Core.List.{List, [], _∷_, _++_, map}
 use Prim.Native.Nat.{ℕ, zero, suc, _+_, _*_, _%_, _≤_, _<_}
 use native.Mathlib.Nat.{mod-lt, mod-mod, zero-mod}
 use native.Mathlib.Omega.{arith}
+use lib.ListN.{take, drop}
 use Rattle.arithmetic.specs.Modulo.{add, mul}
 use Rattle.arithmetic.proofs.Ring.{Term, at, _⊕_, _⊗_, ⊖_, same}
 use Rattle.arithmetic.proofs.Modulo.{zero-add-mod, mul-zero-mod}
@@ -27,6 +28,17 @@ every-of-map P g (x ∷ xs) u = (u .0, every-of-map P g xs (u .1))
 pub every-append : {A : Type 0} (P : A → Type 0) (xs ys : List A) → Every P xs → Every P ys → Every P (xs ++ ys)
 every-append P [] ys u v = v
 every-append P (x ∷ xs) ys u v = (u .0, every-append P xs ys (u .1) v)
+
+-- every member of what is taken and of what is dropped
+pub every-take : {A : Type 0} (P : A → Type 0) (i : ℕ) (xs : List A) → Every P xs → Every P (take i xs)
+every-take P zero xs u = tt
+every-take P (suc i) [] u = tt
+every-take P (suc i) (x ∷ xs) u = (u .0, every-take P i xs (u .1))
+
+pub every-drop : {A : Type 0} (P : A → Type 0) (i : ℕ) (xs : List A) → Every P xs → Every P (drop i xs)
+every-drop P zero xs u = u
+every-drop P (suc i) [] u = tt
+every-drop P (suc i) (x ∷ xs) u = every-drop P i xs (u .1)
 
 -- two maps that agree at every member
 pub map-same : {A B : Type 0} (g h : A → B) (xs : List A) → Every (λ (x : A). g x ≡ h x) xs → map g xs ≡ map h xs

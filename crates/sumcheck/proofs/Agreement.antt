@@ -25,7 +25,8 @@ use Rattle.sumcheck.specs.Sequences.{Input, endOf, challengesOf, message
 use Rattle.sumcheck.proofs.Parts.{product-reduced}
 use Rattle.sumcheck.proofs.Unrefused.{long-is, inside-is}
 use Rattle.sumcheck.proofs.Entries.{RoundsLent, rounds-lent, checker-rounds}
-use Rattle.sumcheck.proofs.Messages.{parts-length, parts-sizes, parts-elements}
+use Rattle.sumcheck.proofs.Messages.{parts-elements}
+use Rattle.sumcheck.proofs.Laid.{parts-count, parts-lengths}
 use Rattle.sumcheck.proofs.Steps.{step-given}
 use Rattle.sumcheck.proofs.Followed.{follow, answers, stateAt, Ended, through, stopped, ended}
 use Rattle.sumcheck.proofs.Sequences.{stays, closed-ended}
@@ -113,13 +114,13 @@ module _ (n vars degree claim : ℕ) (challenges messages : List ℕ) (z : first
   inputs = inputsOf challenges ms
 
   counted : length ms ≡ length challenges
-  counted = parts-length vars (suc degree) messages ∙ sym (lent .rounds)
+  counted = parts-count vars (suc degree) messages ∙ sym (lent .rounds)
 
   course-taken : endOf n (fresh vars degree claim) inputs ≡ follow n (fresh vars degree claim) inputs
   course-taken =
       let u = untested (roundsRules n vars degree claim challenges messages) refl refl z in
       formed n vars degree (u .0) (u .1 .0) inputs 0 claim (lent .claimed) (omega (arith, inputs-length challenges ms counted, lent .rounds))
-      (inputs-formed n degree challenges ms (lent .points) (parts-sizes vars (suc degree) messages (lent .long)) (parts-elements n vars (suc degree) messages (lent .numbers)))
+      (inputs-formed n degree challenges ms (lent .points) (parts-lengths vars (suc degree) messages (omega (arith, lent .long))) (parts-elements n vars (suc degree) messages (lent .numbers)))
 
   ends : Ended n vars degree claim challenges ms (endOf n (fresh vars degree claim) inputs) (answers n (fresh vars degree claim) inputs)
   ends =

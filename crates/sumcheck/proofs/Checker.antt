@@ -21,7 +21,8 @@ use Rattle.sumcheck.specs.Checker.{claimAfter, SumAgrees, SumsAgree, Fai
 use Rattle.sumcheck.proofs.Soundness.{sound, no-variables}
 use Rattle.sumcheck.proofs.Entries.{RoundsLent, checker-lent}
 use Rattle.sumcheck.proofs.Course.{Course, fair, foul, course, fair-reached, foul-failed}
-use Rattle.sumcheck.proofs.Messages.{parts-length, parts-sizes, parts-elements}
+use Rattle.sumcheck.proofs.Messages.{parts-elements}
+use Rattle.sumcheck.proofs.Laid.{parts-count, parts-lengths}
 
 -- the verdict of m rounds, by their course
 module _ (n v c : ℕ) (rs : List ℕ) (ms : List (List ℕ)) (m : ℕ) (e : length rs ≡ m) (g : length ms ≡ length rs) where
@@ -78,7 +79,7 @@ module _ (n vars degree : ℕ) (tables : List ℕ) (claim : ℕ) (challenges mes
   lent = checker-lent n vars degree tables claim challenges messages refl z
 
   counted : length (messagesOf vars degree messages) ≡ length challenges
-  counted = parts-length vars (suc degree) messages ∙ sym (lent .rounds)
+  counted = parts-count vars (suc degree) messages ∙ sym (lent .rounds)
 
   judged : verdict n (tablesOf vars degree tables) claim challenges (messagesOf vars degree messages)
       ≡ final vars (f n (tablesOf vars degree tables) challenges) (rounds n claim challenges (messagesOf vars degree messages))
@@ -98,8 +99,8 @@ module _ (n vars degree : ℕ) (tables : List ℕ) (claim : ℕ) (challenges mes
       record {
         rounds = counted;
         lengths =
-            subst (λ (k : ℕ). Every (λ (s : List ℕ). length s ≡ suc k) (messagesOf vars degree messages)) (sym (parts-length degree (2 ^ vars) tables))
-            (parts-sizes vars (suc degree) messages (lent .long));
+            subst (λ (k : ℕ). Every (λ (s : List ℕ). length s ≡ suc k) (messagesOf vars degree messages)) (sym (parts-count degree (2 ^ vars) tables))
+            (parts-lengths vars (suc degree) messages (omega (arith, lent .long)));
         elements = parts-elements n vars (suc degree) messages (lent .numbers);
       }
 

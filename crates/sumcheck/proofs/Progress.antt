@@ -9,13 +9,14 @@ use native.Mathlib.Omega.{arith}
 use lib.ListN.{length, take, drop, getD, replicate, length-append, length-take, length-drop, drop-of-length-le}
 use lib.Seq.{take-suc, take-all, take-append-le, drop-append-le, drop-at}
 use Rattle.polynomial.specs.Elements.{Every}
-use Rattle.sumcheck.specs.Rounds.{polynomialsAfter, truePolynomials}
+use Rattle.polynomial.proofs.Lists.{every-take}
+use Rattle.sumcheck.specs.Rounds.{truePolynomials}
 use Rattle.sumcheck.specs.Lent.{parts, join}
 use Rattle.sumcheck.proofs.Folded.{folded}
 use Rattle.sumcheck.proofs.FoldedParts.{foldedPart, foldedPart-length, fronts, fronts-more, round-fronts}
+use Rattle.sumcheck.proofs.Messages.{polynomials-count, polynomials-lengths}
 use Rattle.sumcheck.proofs.Laid.{laid, laid-none, laid-more, laid-length, parts-lengths, parts-count, changed-length, changed-rest, changed-parts}
 use Rattle.sumcheck.proofs.RoundFolded.{roundOf, polynomial-folded}
-use Rattle.sumcheck.proofs.Rounds.{polynomial-length}
 use Rattle.sumcheck.proofs.Soundness.{place}
 
 -- what the entry has seen to
@@ -53,20 +54,6 @@ fronts-whole l (u ∷ us) h =
 same-map : (us : List (List ℕ)) → us ≡ map (λ (t : List ℕ). t) us
 same-map [] = refl
 same-map (u ∷ us) = ap (λ (r : List (List ℕ)). u ∷ r) (same-map us)
-
--- how many true polynomials there are, and how long they are
-pub polynomials-count : (n : ℕ) (ts : List (List ℕ)) (cs r : List ℕ) → length (polynomialsAfter n ts r cs) ≡ length cs
-polynomials-count n ts [] r = refl
-polynomials-count n ts (c ∷ cs) r = ap suc (polynomials-count n ts cs (r ++ c ∷ []))
-
-pub polynomials-lengths : (n l : ℕ) (ts : List (List ℕ)) → suc (length ts) ≡ l → (cs r : List ℕ) → Every (λ (q : List ℕ). length q ≡ l) (polynomialsAfter n ts r cs)
-polynomials-lengths n l ts e [] r = tt
-polynomials-lengths n l ts e (c ∷ cs) r = (polynomial-length n ts r (length cs) ∙ e, polynomials-lengths n l ts e cs (r ++ c ∷ []))
-
-every-take : {A : Type 0} (P : A → Type 0) (i : ℕ) (xs : List A) → Every P xs → Every P (take i xs)
-every-take P zero xs u = tt
-every-take P (suc i) [] u = tt
-every-take P (suc i) (x ∷ xs) u = (u .0, every-take P i xs (u .1))
 
 module _ (n count places : ℕ) (tables challenges messages₀ scratch₀ : List ℕ) (s : Setting n count places tables challenges messages₀ scratch₀) where
   -- before the first round

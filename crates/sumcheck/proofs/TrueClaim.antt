@@ -23,7 +23,8 @@ use Rattle.sumcheck.specs.Demands.{Complete}
 use Rattle.sumcheck.specs.Checker.{WellLent, AnswerComplete, ProverAccepted}
 use Rattle.sumcheck.proofs.Completeness.{complete}
 use Rattle.sumcheck.proofs.Unrefused.{is-long, long-is, inside-is}
-use Rattle.sumcheck.proofs.Messages.{parts-length, join-length, join-elements, parts-join, polynomials-length, polynomials-sizes, polynomials-elements}
+use Rattle.sumcheck.proofs.Messages.{join-elements, polynomials-count, polynomials-lengths, polynomials-elements}
+use Rattle.sumcheck.proofs.Laid.{length-join, parts-count, parts-join}
 
 -- a sum is an element
 sum-below : (n : ℕ) → 0 < n → (xs : List ℕ) → sum n xs % n < n → sum n xs < n
@@ -60,19 +61,19 @@ module _ (n : ℕ) (h : 0 < n) (vars degree : ℕ) (tables challenges : List ℕ
 
   -- the true polynomials are as many as the rounds, each of k + 1 numbers
   many : length ps ≡ vars
-  many = polynomials-length n ts [] challenges ∙ rounds
+  many = polynomials-count n ts challenges [] ∙ rounds
 
   sizes : Every (λ (s : List ℕ). length s ≡ suc (length ts)) ps
-  sizes = polynomials-sizes n ts [] challenges
+  sizes = polynomials-lengths n (suc (length ts)) ts refl challenges []
 
   degrees : length ts ≡ degree
-  degrees = parts-length degree (2 ^ vars) tables
+  degrees = parts-count degree (2 ^ vars) tables
 
   long : length (join ps) ≡ vars * suc degree
-  long = join-length (suc (length ts)) ps sizes ∙ ap₂ {B = ℕ} (λ (m k : ℕ). m * suc k) many degrees
+  long = length-join (suc (length ts)) ps sizes ∙ ap₂ {B = ℕ} (λ (m k : ℕ). m * suc k) many degrees
 
   again : messagesOf vars degree (join ps) ≡ ps
-  again = sym (ap₂ {B = ℕ} (λ (m k : ℕ). parts m (suc k) (join ps)) many degrees) ∙ parts-join (suc (length ts)) ps sizes
+  again = sym (ap₂ {B = ℕ} (λ (m k : ℕ). parts m (suc k) (join ps)) many degrees) ∙ (ap (parts (length ps) (suc (length ts))) (sym (append-nil (join ps))) ∙ parts-join (suc (length ts)) ps [] sizes)
 
   numbers : outside n (trueSum n ts vars ∷ challenges ++ join ps) ≡ false
   numbers =
