@@ -19,9 +19,6 @@ number-yes most text d l h p = rw (d, between-in 1 most (length text) l h, p)
 pub number-digits : (most : ℕ) (text : List ℕ) → all isDigit text ≡ false → isNumber most text ≡ false
 number-digits most text d = rw d
 
-pub number-empty : (most : ℕ) → isNumber most [] ≡ false
-number-empty most = refl
-
 pub number-long : (most : ℕ) (text : List ℕ) → most < length text → isNumber most text ≡ false
 number-long most text h = and-right (all isDigit text) _ (rw (between-high 1 most (length text) h))
 

@@ -45,11 +45,6 @@ rounds-lent n vars degree claim challenges messages e z =
       numbers = is-inside n messages (neither-right (outside n challenges) (outside n messages) lists);
     }
 
--- and tables
-pub record TablesLent (n vars degree : ℕ) (tables : List ℕ) : Type 0 where
-  pub long : length tables ≡ degree * 2 ^ vars
-  pub numbers : Elements n tables
-
 module _ (n vars degree : ℕ) (tables : List ℕ) (claim : ℕ) (challenges messages : List ℕ) {k : ℕ}
     (e : k ≡ first (checkerRules n vars degree tables claim challenges messages)) (z : k ≡ 0) where
   unmet : Untested (checkerRules n vars degree tables claim challenges messages)
@@ -69,15 +64,6 @@ module _ (n vars degree : ℕ) (tables : List ℕ) (claim : ℕ) (challenges mes
 
   pub checker-lent : RoundsLent n vars degree claim challenges messages
   checker-lent = rounds-lent n vars degree claim challenges messages checker-rounds refl
-
-  pub checker-tables : TablesLent n vars degree tables
-  checker-tables =
-      record {
-        long =
-            is-long (tablesLength vars degree) tables
-            (neither-left (notLong (tablesLength vars degree) tables) (either (notLong vars challenges) (notLong (messagesLength vars degree) messages)) (unmet .1 .1 .0));
-        numbers = is-inside n tables (neither-left (outside n tables) (outside n (claim ∷ challenges ++ messages)) split);
-      }
 
 -- what the checker with tables refuses once the tables' lengths are right
 abbrev pub checkerRest : ℕ → ℕ → ℕ → List ℕ → ℕ → List ℕ → List ℕ → List Rule
