@@ -98,11 +98,11 @@ placed vars degree long s h e = record { places = right; whole = tables-right va
     right = size-right vars s (shape vars degree (tables-shaped vars degree long h) .few) e
 
 -- the refusals of the value at a point, one test at a time
-abbrev pub valueRules : ℕ → ℕ → List ℕ → List ℕ → List Rule
-valueRules n vars tables point = 3 when notLong vars point ∷ 5 when outside n tables ∷ 5 when outside n point ∷ []
+abbrev pub valueRest : ℕ → ℕ → List ℕ → List ℕ → List Rule
+valueRest n vars tables point = 3 when notLong vars point ∷ 5 when outside n tables ∷ 5 when outside n point ∷ []
 
 pub value-rules : (n vars degree : ℕ) (tables point : List ℕ)
-    → decide (tablesRules vars degree (length tables) ++ valueRules n vars tables point) (f n (tablesOf vars degree tables) point) ≡ valueAnswer n vars degree tables point
+    → decide (tablesRules vars degree (length tables) ++ valueRest n vars tables point) (f n (tablesOf vars degree tables) point) ≡ valueAnswer n vars degree tables point
 value-rules n vars degree tables point =
     ap (λ (r : Answer ℕ). choose (badVars vars) (refused 1) (choose (badDegree degree) (refused 2) r))
     (sym (decide-either 3 a b (5 when outside n tables ∷ 5 when outside n point ∷ []) v)
@@ -141,11 +141,11 @@ module _ (n vars degree : ℕ) (tables point : List ℕ) where
   value = f n (tablesOf vars degree tables) point
 
   pub value-tables : (first head ≡ 0 → ⊥) → refused (first head) ≡ valueAnswer n vars degree tables point
-  value-tables h = sym (decide-first head (valueRules n vars tables point) value h) ∙ value-rules n vars degree tables point
+  value-tables h = sym (decide-first head (valueRest n vars tables point) value h) ∙ value-rules n vars degree tables point
 
   module _ (z : first head ≡ 0) where
-    beyond : decide (valueRules n vars tables point) value ≡ valueAnswer n vars degree tables point
-    beyond = sym (decide-rest head (valueRules n vars tables point) value (tables-numbers vars degree (length tables)) z) ∙ value-rules n vars degree tables point
+    beyond : decide (valueRest n vars tables point) value ≡ valueAnswer n vars degree tables point
+    beyond = sym (decide-rest head (valueRest n vars tables point) value (tables-numbers vars degree (length tables)) z) ∙ value-rules n vars degree tables point
 
     pub value-long : (length point ≡ vars → ⊥) → refused 3 ≡ valueAnswer n vars degree tables point
     value-long h = turned 3 (5 when outside n tables ∷ 5 when outside n point ∷ []) value (ap not (ne-eqb (length point) vars h)) ∙ beyond

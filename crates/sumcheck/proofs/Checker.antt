@@ -1,5 +1,6 @@
 -- What is demanded of the checker's own answer (specs/Checker). The course of the rounds decides the verdict; what is not refused is well formed, so
 -- the protocol's demands hold of the answer. Assumes nothing.
+use mathlib.Core.Logic.{_↔_}
 use mathlib.Core.Path.{_≡_, refl, sym, ap, subst, _∙_}
 use mathlib.Core.Bool.{Bool, true, false}
 use mathlib.Core.List.{List, [], _∷_}
@@ -17,7 +18,7 @@ use Rattle.sumcheck.specs.Protocol.{reached, failed, rounds, Verdict, ac
 use Rattle.sumcheck.specs.Lent.{tablesOf, messagesOf}
 use Rattle.sumcheck.specs.Entries.{checkerRules, checkerAnswer}
 use Rattle.sumcheck.specs.Demands.{WellFormed, Sound, NoVariables}
-use Rattle.sumcheck.specs.Checker.{claimAfter, SumAgrees, SumsAgree, Fails, atSum, atFinal, Exactly, AcceptsExactly, RejectsFirst, RefusesFirst, AnswerSound, AnswerCertain}
+use Rattle.sumcheck.specs.Checker.{claimAfter, SumAgrees, SumsAgree, Fails, atSum, atFinal, AcceptsExactly, RejectsFirst, RefusesFirst, AnswerSound, AnswerCertain}
 use Rattle.sumcheck.proofs.Soundness.{sound, no-variables}
 use Rattle.sumcheck.proofs.Entries.{RoundsLent, checker-lent}
 use Rattle.sumcheck.proofs.Course.{Course, fair, foul, course, fair-reached, foul-failed}
@@ -117,9 +118,9 @@ said n vars degree tables claim challenges messages a h =
 exactly : (n vars degree : ℕ) (tables : List ℕ) (claim : ℕ) (challenges messages : List ℕ) (a : Verdict) (B : Type 0) →
     let v = f n (tablesOf vars degree tables) challenges in
     let ms = messagesOf vars degree messages in
-    (length challenges ≡ vars → length ms ≡ length challenges → Exactly (final vars v (rounds n claim challenges ms) ≡ a) B)
-    → Exactly (checkerAnswer n vars degree tables claim challenges messages ≡ given a)
-    ((first (checkerRules n vars degree tables claim challenges messages) ≡ 0) × B)
+    (length challenges ≡ vars → length ms ≡ length challenges → (final vars v (rounds n claim challenges ms) ≡ a) ↔ B)
+    → (checkerAnswer n vars degree tables claim challenges messages ≡ given a)
+    ↔ ((first (checkerRules n vars degree tables claim challenges messages) ≡ 0) × B)
 exactly n vars degree tables claim challenges messages a B h = (
   λ (w : checkerAnswer n vars degree tables claim challenges messages ≡ given a).
       let d = said n vars degree tables claim challenges messages a w in
@@ -129,7 +130,7 @@ exactly n vars degree tables claim challenges messages a B h = (
 )
   where
     its : first (checkerRules n vars degree tables claim challenges messages) ≡ 0
-        → Exactly (final vars (f n (tablesOf vars degree tables) challenges) (rounds n claim challenges (messagesOf vars degree messages)) ≡ a) B
+        → (final vars (f n (tablesOf vars degree tables) challenges) (rounds n claim challenges (messagesOf vars degree messages)) ≡ a) ↔ B
     its z = h (lent n vars degree tables claim challenges messages z .rounds) (counted n vars degree tables claim challenges messages z)
 
 pub accepts-exactly : AcceptsExactly

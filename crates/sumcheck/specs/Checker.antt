@@ -7,18 +7,19 @@
 --   ProverAccepted   the messages that the prover leaves in a list of the exact length are accepted
 --   AnswerCertain    with no variables it accepts true claims only
 use mathlib.Core.Path.{_≡_}
+use mathlib.Core.Logic.{_↔_}
 use mathlib.Core.List.{List, [], _∷_, _++_}
 use Prim.Native.Nat.{ℕ, zero, suc, _<_}
 use lib.ListN.{length, getD}
 use Rattle.arithmetic.specs.Modulo.{add}
 use Rattle.arithmetic.specs.Prime.{Prime}
 use Rattle.polynomial.specs.Polynomial.{value}
-use Rattle.refusals.specs.First.{_when_, refused, given, first, either, outside}
+use Rattle.refusals.specs.First.{refused, given, first}
 use Rattle.sumcheck.specs.Function.{f, trueSum}
 use Rattle.sumcheck.specs.Rounds.{truePolynomials}
 use Rattle.sumcheck.specs.Protocol.{accepted, rejected}
-use Rattle.sumcheck.specs.Lent.{join, tablesLength, messagesLength, tablesOf, messagesOf, badVars, badDegree, notLong}
-use Rattle.sumcheck.specs.Entries.{proverRules, messagesAfter, checkerRules, checkerAnswer}
+use Rattle.sumcheck.specs.Lent.{join, messagesLength, tablesOf, messagesOf}
+use Rattle.sumcheck.specs.Entries.{valueRules, proverRules, messagesAfter, checkerRules, checkerAnswer}
 use Rattle.sumcheck.specs.Demands.{Lucky}
 
 -- c0 is the claim, and cj is the message of round j at its challenge (document 01, "What is offered"); rounds stand at places from 0
@@ -41,42 +42,32 @@ pub data Fails (n : ℕ) (m v claim : ℕ) (challenges : List ℕ) (messages : L
       → Fails n m v claim challenges messages (suc j)
   atFinal : SumsAgree n claim challenges messages m → (claimAfter n claim challenges messages m ≡ v → ⊥) → Fails n m v claim challenges messages m
 
--- each is a cause exactly when the other is
-abbrev pub Exactly : Type 0 → Type 0 → Type 0
-Exactly A B = (A → B) × (B → A)
-
 unfoldable pub AcceptsExactly : Type 0
 AcceptsExactly = (n vars degree : ℕ) (tables : List ℕ) (claim : ℕ) (challenges messages : List ℕ)
-    → Exactly (checkerAnswer n vars degree tables claim challenges messages ≡ given accepted)
-    ((first (checkerRules n vars degree tables claim challenges messages) ≡ 0)
+    → (checkerAnswer n vars degree tables claim challenges messages ≡ given accepted)
+    ↔ ((first (checkerRules n vars degree tables claim challenges messages) ≡ 0)
     × (SumsAgree n claim challenges (messagesOf vars degree messages) vars
     × (claimAfter n claim challenges (messagesOf vars degree messages) vars ≡ f n (tablesOf vars degree tables) challenges)))
 
 unfoldable pub RejectsFirst : Type 0
 RejectsFirst = (n vars degree : ℕ) (tables : List ℕ) (claim : ℕ) (challenges messages : List ℕ) (round : ℕ)
-    → Exactly (checkerAnswer n vars degree tables claim challenges messages ≡ given (rejected round))
-    ((first (checkerRules n vars degree tables claim challenges messages) ≡ 0)
+    → (checkerAnswer n vars degree tables claim challenges messages ≡ given (rejected round))
+    ↔ ((first (checkerRules n vars degree tables claim challenges messages) ≡ 0)
     × Fails n vars (f n (tablesOf vars degree tables) challenges) claim challenges (messagesOf vars degree messages) round)
 
 unfoldable pub RefusesFirst : Type 0
 RefusesFirst = (n vars degree : ℕ) (tables : List ℕ) (claim : ℕ) (challenges messages : List ℕ) (number : ℕ)
-    → Exactly (checkerAnswer n vars degree tables claim challenges messages ≡ refused number)
-    ((first (checkerRules n vars degree tables claim challenges messages) ≡ number) × (number ≡ 0 → ⊥))
+    → (checkerAnswer n vars degree tables claim challenges messages ≡ refused number)
+    ↔ ((first (checkerRules n vars degree tables claim challenges messages) ≡ number) × (number ≡ 0 → ⊥))
 
 unfoldable pub AnswerSound : Type 0
 AnswerSound = (n : ℕ) → Prime n → (vars degree : ℕ) (tables : List ℕ) (claim : ℕ) (challenges messages : List ℕ)
     → checkerAnswer n vars degree tables claim challenges messages ≡ given accepted → (claim ≡ trueSum n (tablesOf vars degree tables) vars → ⊥)
     → (j : ℕ) × Lucky n (tablesOf vars degree tables) challenges (messagesOf vars degree messages) j
 
--- tables and challenges that no entry refuses
+-- tables and challenges that are not refused, as for the value of f there
 abbrev pub WellLent : ℕ → ℕ → ℕ → List ℕ → List ℕ → Type 0
-WellLent n vars degree tables challenges =
-    first
-    (1 when badVars vars
-    ∷ 2 when badDegree degree
-    ∷ 3 when either (notLong (tablesLength vars degree) tables) (notLong vars challenges)
-    ∷ 5 when outside n (tables ++ challenges)
-    ∷ []) ≡ 0
+WellLent n vars degree tables challenges = first (valueRules n vars degree tables challenges) ≡ 0
 
 unfoldable pub AnswerComplete : Type 0
 AnswerComplete = (n : ℕ) → 0 < n → (vars degree : ℕ) (tables challenges : List ℕ) → WellLent n vars degree tables challenges

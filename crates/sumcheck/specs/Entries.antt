@@ -34,16 +34,17 @@ lengthsRefusal vars degree tables point =
 abbrev pub valueOrZero : ℕ → ℕ → ℕ → List ℕ → List ℕ → ℕ
 valueOrZero n vars degree tables point = choose (eqb (lengthsRefusal vars degree tables point) 0) (f n (tablesOf vars degree tables) point) 0
 
--- the value of f at a point
-abbrev pub valueAnswer : ℕ → ℕ → ℕ → List ℕ → List ℕ → Answer ℕ
-valueAnswer n vars degree tables point =
-    decide
-    (1 when badVars vars
+-- the value of f at a point: its refusals, and its answer
+abbrev pub valueRules : ℕ → ℕ → ℕ → List ℕ → List ℕ → List Rule
+valueRules n vars degree tables point =
+    1 when badVars vars
     ∷ 2 when badDegree degree
     ∷ 3 when either (notLong (tablesLength vars degree) tables) (notLong vars point)
     ∷ 5 when outside n (tables ++ point)
-    ∷ [])
-    (f n (tablesOf vars degree tables) point)
+    ∷ []
+
+abbrev pub valueAnswer : ℕ → ℕ → ℕ → List ℕ → List ℕ → Answer ℕ
+valueAnswer n vars degree tables point = decide (valueRules n vars degree tables point) (f n (tablesOf vars degree tables) point)
 
 -- the prover's refusals
 abbrev pub proverRules : ℕ → ℕ → ℕ → List ℕ → List ℕ → List ℕ → List ℕ → List Rule
