@@ -2,7 +2,7 @@
 ghost use mathlib.Core.Path.{_≡_};
 ghost use denote.Ref.{ptr};
 ghost use Rattle.sumcheck.specs.Lent.{messagesLength};
-ghost use Rattle.sumcheck.specs.Part.{partRefusal, partStart, partOf};
+ghost use Rattle.sumcheck.specs.Part.{partRefusal, partStart, partLength, partOf};
 ghost use Rattle.narrow_checker.specs.Place.{placeAt};
 use narrow_tables::judge;
 
@@ -40,17 +40,32 @@ pub fn round_part_refusal(vars: u32, degree: u32, messages: &[u32], round: u32) 
     0
 }
 
-// Round j's message as a part of the list: it starts at (j-1)(k+1) of the caller's own list, and has k+1 numbers. Where refused, the empty part
-// at the list's start.
+// Where round j's part starts, (j-1)(k+1); 0 where refused.
+pub fn round_part_start(vars: u32, degree: u32, messages: &[u32], round: u32) -> usize
+    ensures { λ r. ⌜ r ≡ partStart vars degree (now (messages .entry)) round ⌝ }
+{
+    if round_part_refusal(vars, degree, messages, round) != 0 {
+        return 0;
+    }
+    wide(round - 1) * (wide(degree) + 1)
+}
+
+// How long it is, k+1; 0 where refused.
+pub fn round_part_length(vars: u32, degree: u32, messages: &[u32], round: u32) -> usize
+    ensures { λ r. ⌜ r ≡ partLength vars degree (now (messages .entry)) round ⌝ }
+{
+    if round_part_refusal(vars, degree, messages, round) != 0 {
+        return 0;
+    }
+    wide(degree) + 1
+}
+
+// Round j's message as a part of the caller's own list. Where refused, the empty part at the list's start.
 pub fn round_part(vars: u32, degree: u32, messages: &[u32], round: u32) -> &[u32]
     ensures part { λ r. ⌜ now r ≡ partOf vars degree (now (messages .entry)) round ⌝ }
     ensures place { λ r. ⌜ ptr r ≡ placeAt (ptr (messages .entry)) (partStart vars degree (now (messages .entry)) round) ⌝ }
 {
-    if round_part_refusal(vars, degree, messages, round) != 0 {
-        return &messages[0..0];
-    }
-    let width = wide(degree) + 1;
-    let start = wide(round - 1) * width;
-    let end = start + width;
+    let start = round_part_start(vars, degree, messages, round);
+    let end = start + round_part_length(vars, degree, messages, round);
     &messages[start..end]
 }

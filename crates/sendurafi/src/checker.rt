@@ -14,7 +14,9 @@ use crate::code::of_opened;
 use crate::code::of_rounds;
 use crate::code::of_stepped;
 use crate::code::of_verdict;
+use narrow_checker::part::round_part_length;
 use narrow_checker::part::round_part_refusal;
+use narrow_checker::part::round_part_start;
 use narrow_checker::whole::check;
 use narrow_checker::without_tables::check_rounds;
 
@@ -93,15 +95,7 @@ pub extern "C" fn sendurafi_round_part_refusal(
 pub extern "C" fn sendurafi_round_part(vars: u32, degree: u32, messages: &[u32], round: u32) -> Part
     ensures { λ r. ⌜ (r .start ≡ partStart vars degree (now (messages .entry)) round) × (r .length ≡ partLength vars degree (now (messages .entry)) round) ⌝ }
 {
-    if round_part_refusal(vars, degree, messages, round) != 0 {
-        return Part {
-            start: 0,
-            length: 0,
-        };
-    }
-    let length = degree as usize + 1;
-    Part {
-        start: (round as usize - 1) * length,
-        length,
-    }
+    let start = round_part_start(vars, degree, messages, round);
+    let length = round_part_length(vars, degree, messages, round);
+    Part { start, length }
 }

@@ -1,6 +1,7 @@
 -- The round part (specs/Part): what a call knows that was not refused, where the part lies, and that it is the message that the checker judges.
 -- Assumes nothing.
 use mathlib.Core.Path.{_≡_, refl, sym, ap, ap₂, _∙_}
+use mathlib.Core.Bool.{Bool, true, false}
 use mathlib.Core.List.{List, []}
 use Prim.Native.Nat.{ℕ, zero, suc, _+_, _-_, _*_, _≤_, _<_}
 use native.Mathlib.Nat.{mul-le-mul-right}
@@ -8,11 +9,11 @@ use native.Mathlib.Omega.{arith}
 use lib.Dec.{eqb, ltb}
 use lib.ListN.{length, getD, take, drop}
 use lib.Seq.{drop-drop}
-use borrow.Author.Tests.{eqb-false, ltb-false, eq-eqb, ne-eqb}
+use borrow.Author.Tests.{eqb-true, eqb-false, ltb-false, eq-eqb, ne-eqb}
 use Rattle.refusals.proofs.First.{choose-true, choose-false}
 use Rattle.refusals.proofs.Order.{untested, neither-left, neither-right}
 use Rattle.sumcheck.specs.Lent.{parts, messagesLength, messagesOf}
-use Rattle.sumcheck.specs.Part.{partRules, partRefusal, partStart, partOf}
+use Rattle.sumcheck.specs.Part.{partRules, partRefusal, partStart, partLength, partOf}
 use Rattle.sumcheck.proofs.Unrefused.{is-long}
 
 -- the number of part j, from 0, of so many of one size
@@ -34,11 +35,8 @@ module _ (vars degree : ℕ) (messages : List ℕ) (round : ℕ) {k : ℕ} (e : 
   pub part-none : (k ≡ 0 → ⊥) → 0 ≡ partStart vars degree messages round
   part-none z = sym (choose-false ((round - 1) * suc degree) 0 (ne-eqb (partRefusal vars degree messages round) 0 (λ (w : partRefusal vars degree messages round ≡ 0). z (e ∙ w))))
 
-  pub part-empty : (k ≡ 0 → ⊥) → [] ≡ partOf vars degree messages round
-  part-empty z =
-      sym
-      (ap (λ (l : ℕ). take l (drop (partStart vars degree messages round) messages))
-      (choose-false (suc degree) 0 (ne-eqb (partRefusal vars degree messages round) 0 (λ (w : partRefusal vars degree messages round ≡ 0). z (e ∙ w)))))
+  pub part-short : (k ≡ 0 → ⊥) → 0 ≡ partLength vars degree messages round
+  part-short z = sym (choose-false (suc degree) 0 (ne-eqb (partRefusal vars degree messages round) 0 (λ (w : partRefusal vars degree messages round ≡ 0). z (e ∙ w))))
 
   -- else the part lies inside the list
   pub part-some : k ≡ 0 → 0 < round
@@ -58,11 +56,8 @@ module _ (vars degree : ℕ) (messages : List ℕ) (round : ℕ) {k : ℕ} (e : 
   pub part-start : k ≡ 0 → (round - 1) * suc degree ≡ partStart vars degree messages round
   part-start z = sym (choose-true ((round - 1) * suc degree) 0 (eq-eqb (partRefusal vars degree messages round) 0 (sym e ∙ z)))
 
-  pub part-given : k ≡ 0 → take (suc degree) (drop ((round - 1) * suc degree) messages) ≡ partOf vars degree messages round
-  part-given z =
-      ap₂ {B = ℕ} (λ (l i : ℕ). take l (drop i messages))
-      (sym (choose-true (suc degree) 0 (eq-eqb (partRefusal vars degree messages round) 0 (sym e ∙ z))))
-      (part-start z)
+  pub part-long : k ≡ 0 → suc degree ≡ partLength vars degree messages round
+  part-long z = sym (choose-true (suc degree) 0 (eq-eqb (partRefusal vars degree messages round) 0 (sym e ∙ z)))
 
   -- the part is the message that the checker judges in that round
   pub part-message : k ≡ 0 → partOf vars degree messages round ≡ getD (messagesOf vars degree messages) (round - 1) []
@@ -70,4 +65,18 @@ module _ (vars degree : ℕ) (messages : List ℕ) (round : ℕ) {k : ℕ} (e : 
       let u = untested (partRules vars degree messages round) refl e z in
       let most : round ≤ vars = ltb-false vars round (neither-right (eqb round 0) (ltb vars round) (u .1 .1 .1 .0)) in
       let some : 0 < round = part-some z in
-      sym (parts-at vars (suc degree) messages (round - 1) (omega arith) ∙ part-given z)
+      sym
+      (parts-at vars (suc degree) messages (round - 1) (omega arith)
+      ∙ ap₂ {B = ℕ} (λ (l i : ℕ). take l (drop i messages)) (part-long z) (part-start z))
+
+-- refused or not, the part lies inside the list
+pub part-within : (vars degree : ℕ) (messages : List ℕ) (round : ℕ) → partStart vars degree messages round + partLength vars degree messages round ≤ length messages
+part-within vars degree messages round = go (eqb (partRefusal vars degree messages round) 0) refl
+  where
+    go : (t : Bool) → eqb (partRefusal vars degree messages round) 0 ≡ t → partStart vars degree messages round + partLength vars degree messages round ≤ length messages
+    go true t =
+        let z : partRefusal vars degree messages round ≡ 0 = eqb-true (partRefusal vars degree messages round) 0 t in
+        omega (arith, part-inside vars degree messages round refl z, part-start vars degree messages round refl z, part-long vars degree messages round refl z)
+    go false t =
+        let z : partRefusal vars degree messages round ≡ 0 → ⊥ = eqb-false (partRefusal vars degree messages round) 0 t in
+        omega (arith, part-none vars degree messages round refl z, part-short vars degree messages round refl z)
