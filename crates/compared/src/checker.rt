@@ -8,6 +8,7 @@ use super::lists::part;
 use super::show;
 use narrow_checker::part::round_part;
 use narrow_checker::part::round_part_refusal;
+use narrow_checker::part::round_part_start;
 use narrow_checker::whole::check;
 use narrow_checker::without_tables::check_rounds;
 
@@ -78,33 +79,14 @@ pub fn rounds(c: Cursor, chunk: &mut [u8], challenges: &mut [u32], messages: &mu
     claimed(head.first, head.second, before, chunk, challenges, messages)
 }
 
-// Where a round's part starts, for a degree from 1 to 3; 0 where there is none. The library hands out the part, and its start is worked out here.
-fn start_of(degree: u32, round: u32) -> u32 {
-    if round == 0 {
-        return 0;
-    }
-    let before = round as u64 - 1;
-    match degree {
-        1 => low(before * 2),
-        2 => low(before * 3),
-        3 => low(before * 4),
-        _ => 0,
-    }
-}
-
 // The answer of a round part: its start, its length, the refusal's number.
 fn parted(vars: u32, degree: u32, messages: &[u32], round: u32) {
-    let refusal = round_part_refusal(vars, degree, messages, round);
+    let start = round_part_start(vars, degree, messages, round);
     let found = round_part(vars, degree, messages, round);
-    let length = low(found.len() as u64);
     show::number(0);
-    if refusal == 0 {
-        show::number(start_of(degree, round));
-    } else {
-        show::number(0);
-    }
-    show::number(length);
-    show::number(refusal);
+    show::number(low(start as u64));
+    show::number(low(found.len() as u64));
+    show::number(round_part_refusal(vars, degree, messages, round));
 }
 
 // Code 40.
