@@ -1,7 +1,7 @@
 // A forged state for each refusal of a step and of closing, in document 01's order.
 use super::show;
-use narrow_checker::state::State;
 use narrow_field::P;
+use narrow_steps::state::State;
 
 // A step on a state of any numbers.
 fn step(

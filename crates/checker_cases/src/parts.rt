@@ -1,8 +1,8 @@
 // Round parts of P9's messages, and each refusal.
 use super::show::line;
 use super::show::part;
-use narrow_checker::part::round_part;
-use narrow_checker::part::round_part_refusal;
+use narrow_message::part::round_part;
+use narrow_message::part::round_part_refusal;
 
 fn show(label: &[u8], vars: u32, degree: u32, messages: &[u32], round: u32) {
     part(label, round_part(vars, degree, messages, round));

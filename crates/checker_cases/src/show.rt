@@ -1,9 +1,9 @@
 // Printing the checker's answers, a line for each.
 use narrow_checker::Rounds;
 use narrow_checker::Verdict;
-use narrow_checker::state::Opening;
-use narrow_checker::state::State;
-use narrow_checker::step::Step;
+use narrow_steps::state::Opening;
+use narrow_steps::state::State;
+use narrow_steps::step::Step;
 
 fn wide(x: u32) -> u64 {
     x as u64

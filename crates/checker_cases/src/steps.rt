@@ -1,7 +1,7 @@
 // The checker in steps: openings on both sides of the limits, P9 and P11 step by step.
 use super::show;
-use narrow_checker::state::State;
 use narrow_field::P;
+use narrow_steps::state::State;
 
 fn open(label: &[u8], vars: u32, degree: u32, claim: u32) {
     let opened = State::open(vars, degree, claim);

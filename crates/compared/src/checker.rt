@@ -6,11 +6,11 @@ use super::input::pair;
 use super::lists::list;
 use super::lists::part;
 use super::show;
-use narrow_checker::part::round_part;
-use narrow_checker::part::round_part_refusal;
-use narrow_checker::part::round_part_start;
 use narrow_checker::whole::check;
 use narrow_checker::without_tables::check_rounds;
+use narrow_message::part::round_part;
+use narrow_message::part::round_part_refusal;
+use narrow_message::part::round_part_start;
 
 // The rest of a case of code 20, after its tables.
 fn checked(

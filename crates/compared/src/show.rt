@@ -2,12 +2,12 @@
 use super::input::low;
 use narrow_checker::Rounds;
 use narrow_checker::Verdict;
-use narrow_checker::state::Opening;
-use narrow_checker::state::State;
-use narrow_checker::step::Step;
 use narrow_field::Answer;
 use narrow_file::Reply;
 use narrow_prover::Proof;
+use narrow_steps::state::Opening;
+use narrow_steps::state::State;
+use narrow_steps::step::Step;
 
 // A case's number, at the start of a line.
 pub fn case(number: u64) {

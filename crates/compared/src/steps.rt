@@ -8,7 +8,7 @@ use super::input::pair;
 use super::lists::list;
 use super::lists::part;
 use super::show;
-use narrow_checker::state::State;
+use narrow_steps::state::State;
 
 // The first state, printed with the answer; the mark says whether it is opened.
 struct Start {

@@ -1,10 +1,4 @@
-// The checker over the narrow field (document 01): `whole` has it in one call, `without_tables` without them, `state`, `step` and `close` in steps,
-// `part` the round part; `round` has a round's coefficients as one array value.
-pub mod close;
-pub mod part;
-pub mod round;
-pub mod state;
-pub mod step;
+// The checker over the narrow field (document 01): `whole` has it in one call, `without_tables` without them.
 pub mod whole;
 pub mod without_tables;
 

@@ -7,11 +7,12 @@ ghost use Rattle.narrow_field.specs.Narrow.{p};
 ghost use Rattle.narrow_checker.specs.Said.{said};
 use super::Rounds;
 use super::Verdict;
-use super::part::wide;
 use super::without_tables::is_not_long;
 use super::without_tables::is_outside;
 use super::without_tables::walk;
-use narrow_tables::judge;
+use narrow_lent::judge;
+use narrow_lent::lengths::size;
+use narrow_lent::lengths::wide;
 use narrow_tables::value::f_at;
 
 // The number of the refusal with tables; 0 if none.
@@ -32,7 +33,7 @@ fn check_refusal(
     if is_not_long(vars, degree, challenges, messages) {
         return 3;
     }
-    if judge::tables_outside(tables, wide(degree), judge::size(vars)) {
+    if judge::tables_outside(tables, wide(degree), size(vars)) {
         return 5;
     }
     if is_outside(claim, challenges, messages) {

@@ -18,7 +18,8 @@ use crate::memory::clear;
 use crate::memory::copy;
 use crate::memory::put;
 use crate::round::round;
-use narrow_tables::judge;
+use narrow_lent::judge;
+use narrow_lent::lengths::size;
 
 // One round: its polynomial is written to the front of its part of the message list, and the tables are folded by its challenge.
 fn write_round(
@@ -101,7 +102,7 @@ pub fn prove(
     if scratch.len() < tables.len() {
         return Proof::Refused(4);
     }
-    let places = judge::size(vars);
+    let places = size(vars);
     if judge::tables_outside(tables, count, places) {
         return Proof::Refused(5);
     }

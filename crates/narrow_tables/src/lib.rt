@@ -1,3 +1,2 @@
-// Lent tables over the narrow field (document 01): `judge` turns down what is lent, `value` has the true sum and the value of f at a point.
-pub mod judge;
+// Lent tables over the narrow field (document 01): `value` has the true sum and the value of f at a point.
 pub mod value;

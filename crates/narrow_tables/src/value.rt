@@ -13,15 +13,15 @@ ghost use Rattle.sumcheck.specs.Entries.{sumAnswer, valueAnswer, valueOrZero};
 ghost use Rattle.sumcheck.proofs.Halves.{column};
 ghost use Rattle.narrow_field.specs.Narrow.{p};
 ghost use Rattle.narrow_field.specs.Field.{said};
-use crate::judge;
-use crate::judge::is_outside;
-use crate::judge::size;
-use crate::judge::tables_outside;
 use narrow_field::Answer;
 use narrow_field::modulo::less;
 use narrow_field::modulo::plus;
 use narrow_field::modulo::times;
 use narrow_field::modulo::times_plus;
+use narrow_lent::judge;
+use narrow_lent::judge::is_outside;
+use narrow_lent::judge::tables_outside;
+use narrow_lent::lengths::size;
 
 // The point at r on the line from a (at 0) to b (at 1).
 pub fn point_between(r: u32, a: u32, b: u32) -> u32

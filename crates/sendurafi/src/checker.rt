@@ -4,21 +4,21 @@ ghost use Rattle.sumcheck.specs.Entries.{checkerAnswer, roundsAnswer};
 ghost use Rattle.sumcheck.specs.Steps.{opening, step, closing};
 ghost use Rattle.sumcheck.specs.Part.{partRefusal, partStart, partLength};
 ghost use Rattle.narrow_field.specs.Narrow.{p};
-ghost use Rattle.sendurafi.specs.Coded.{ofVerdict, ofRounds, ofOpened, ofStepped, stateOf};
-use crate::Answer;
-use crate::Part;
-use crate::State;
-use crate::Stepped;
-use crate::code::from_state;
-use crate::code::of_opened;
-use crate::code::of_rounds;
-use crate::code::of_stepped;
-use crate::code::of_verdict;
-use narrow_checker::part::round_part_length;
-use narrow_checker::part::round_part_refusal;
-use narrow_checker::part::round_part_start;
+ghost use Rattle.coded.specs.Coded.{ofVerdict, ofRounds, ofOpened, ofStepped, stateOf};
+use coded::Answer;
+use coded::Part;
+use coded::State;
+use coded::Stepped;
+use coded::code::from_state;
+use coded::code::of_opened;
+use coded::code::of_rounds;
+use coded::code::of_stepped;
+use coded::code::of_verdict;
 use narrow_checker::whole::check;
 use narrow_checker::without_tables::check_rounds;
+use narrow_message::part::round_part_length;
+use narrow_message::part::round_part_refusal;
+use narrow_message::part::round_part_start;
 
 // The checker with tables.
 #[no_mangle]
@@ -54,7 +54,7 @@ pub extern "C" fn sendurafi_check_rounds(
 pub extern "C" fn sendurafi_open(vars: u32, degree: u32, claim: u32) -> Stepped
     ensures { λ r. ⌜ r ≡ ofOpened (opening p vars degree claim) ⌝ }
 {
-    of_opened(narrow_checker::state::State::open(vars, degree, claim))
+    of_opened(narrow_steps::state::State::open(vars, degree, claim))
 }
 
 // One step.

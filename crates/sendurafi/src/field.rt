@@ -1,9 +1,9 @@
 // The field.
 ghost use mathlib.Core.Path.{_≡_};
 ghost use Rattle.narrow_field.specs.Field.{sumOf, differenceOf, negativeOf, productOf, powerOf, inverseOf};
-ghost use Rattle.sendurafi.specs.Coded.{ofNumber};
-use crate::Answer;
-use crate::code::of_number;
+ghost use Rattle.coded.specs.Coded.{ofNumber};
+use coded::Answer;
+use coded::code::of_number;
 
 // a + b.
 #[no_mangle]

@@ -1,52 +1,6 @@
-// The library's face for other languages: every entry under a plain C name, its answer as a small struct. Nothing is done here but passing on and
-// writing the answer down in numbers; each promise cites the definition that the entry below has. client/include/sendurafi.h says the same in C.
+// The library's face for other languages: every entry under a plain C name, its answer as a small struct of `coded`. Nothing is done here but passing
+// on; each promise cites the definition that the entry below has. client/include/sendurafi.h says the same in C.
 pub mod checker;
-pub mod code;
 pub mod field;
 pub mod reader;
 pub mod tables;
-
-// An answer in numbers. kind 0: given, done, accepted or reached, with the value where there is one; 1: rejected, number is the round; 2: refused,
-// number is the refusal, line its line where it has one.
-#[repr(C)]
-pub struct Answer {
-    pub kind: u32,
-    pub number: u32,
-    pub line: u32,
-    pub value: u32,
-}
-
-// The checker's state. Any number but 0 is a rejected mark.
-#[repr(C)]
-pub struct State {
-    pub vars: u32,
-    pub degree: u32,
-    pub taken: u32,
-    pub claim: u32,
-    pub rejected: u32,
-}
-
-// What a call on a state hands back.
-#[repr(C)]
-pub struct Stepped {
-    pub state: State,
-    pub answer: Answer,
-}
-
-// A file's head, or a refusal with its line.
-#[repr(C)]
-pub struct File {
-    pub kind: u32,
-    pub number: u32,
-    pub line: u32,
-    pub vars: u32,
-    pub degree: u32,
-    pub claim: u32,
-}
-
-// A part of the caller's list.
-#[repr(C)]
-pub struct Part {
-    pub start: usize,
-    pub length: usize,
-}

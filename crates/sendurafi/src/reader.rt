@@ -2,9 +2,9 @@
 ghost use mathlib.Core.Path.{_≡_};
 ghost use lib.ListN.{length};
 ghost use Rattle.narrow_file.specs.Narrow.{told, readAnswer, after};
-ghost use Rattle.sendurafi.specs.Coded.{ofHead};
-use crate::File;
-use crate::code::of_reply;
+ghost use Rattle.coded.specs.Coded.{ofHead};
+use coded::File;
+use coded::code::of_reply;
 
 // A proof file from its bytes.
 #[no_mangle]

@@ -2,10 +2,10 @@
 ghost use mathlib.Core.Path.{_≡_};
 ghost use Rattle.sumcheck.specs.Entries.{sumAnswer, valueAnswer, proverAnswer, messagesAfter, scratchAfter};
 ghost use Rattle.narrow_field.specs.Narrow.{p};
-ghost use Rattle.sendurafi.specs.Coded.{ofNumber, ofDone};
-use crate::Answer;
-use crate::code::of_number;
-use crate::code::of_proof;
+ghost use Rattle.coded.specs.Coded.{ofNumber, ofDone};
+use coded::Answer;
+use coded::code::of_number;
+use coded::code::of_proof;
 use narrow_prover::prove::prove;
 use narrow_tables::value::true_sum;
 use narrow_tables::value::value_at;

@@ -1,6 +1,6 @@
 -- `sendurafi::checker::sendurafi_check` meets its contract: it passes on. Assumes nothing.
 use mathlib.Core.Path.{ap, _∙_}
-use Rattle.sendurafi.specs.Coded.{ofVerdict}
+use Rattle.coded.specs.Coded.{ofVerdict}
 use borrow.Author.Needs.{needs}
 use Rattle.sendurafi.proofs.checker.sendurafi_check.Statement.{statement}
 use Rattle.sendurafi.proofs.checker.sendurafi_check.Tie as tie

@@ -1,6 +1,6 @@
 -- `sendurafi::checker::sendurafi_check_rounds` meets its contract: it passes on. Assumes nothing.
 use mathlib.Core.Path.{ap, _∙_}
-use Rattle.sendurafi.specs.Coded.{ofRounds}
+use Rattle.coded.specs.Coded.{ofRounds}
 use borrow.Author.Needs.{needs}
 use Rattle.sendurafi.proofs.checker.sendurafi_check_rounds.Statement.{statement}
 use Rattle.sendurafi.proofs.checker.sendurafi_check_rounds.Tie as tie

@@ -1,6 +1,6 @@
 -- `sendurafi::checker::sendurafi_close` meets its contract: it passes on. Assumes nothing.
 use mathlib.Core.Path.{ap, _∙_}
-use Rattle.sendurafi.specs.Coded.{ofVerdict}
+use Rattle.coded.specs.Coded.{ofVerdict}
 use Rattle.sumcheck.specs.Protocol.{Verdict}
 use Rattle.sumcheck.specs.Steps.{State, Back, closing}
 use Rattle.narrow_field.specs.Narrow.{p}

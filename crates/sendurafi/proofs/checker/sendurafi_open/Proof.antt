@@ -1,6 +1,6 @@
 -- `sendurafi::checker::sendurafi_open` meets its contract: it passes on. Assumes nothing.
 use mathlib.Core.Path.{ap, _∙_}
-use Rattle.sendurafi.specs.Coded.{ofOpened}
+use Rattle.coded.specs.Coded.{ofOpened}
 use borrow.Author.Needs.{needs}
 use Rattle.sendurafi.proofs.checker.sendurafi_open.Statement.{statement}
 use Rattle.sendurafi.proofs.checker.sendurafi_open.Tie as tie

@@ -1,6 +1,6 @@
 -- `sendurafi::checker::sendurafi_step` meets its contract: it passes on. Assumes nothing.
 use mathlib.Core.Path.{ap, _∙_}
-use Rattle.sendurafi.specs.Coded.{ofStepped}
+use Rattle.coded.specs.Coded.{ofStepped}
 use Rattle.sumcheck.specs.Steps.{State, step}
 use Rattle.narrow_field.specs.Narrow.{p}
 use borrow.Author.Needs.{needs}

@@ -1,6 +1,6 @@
 -- `sendurafi::field::sendurafi_sum` meets its contract: it passes on. Assumes nothing.
 use mathlib.Core.Path.{ap, _∙_}
-use Rattle.sendurafi.specs.Coded.{ofNumber}
+use Rattle.coded.specs.Coded.{ofNumber}
 use borrow.Author.Needs.{needs}
 use Rattle.sendurafi.proofs.field.sendurafi_sum.Statement.{statement}
 use Rattle.sendurafi.proofs.field.sendurafi_sum.Tie as tie

@@ -1,6 +1,6 @@
 -- `sendurafi::reader::sendurafi_read` meets its contract: it passes on. Assumes nothing.
 use mathlib.Core.Path.{ap, _∙_}
-use Rattle.sendurafi.specs.Coded.{ofHead}
+use Rattle.coded.specs.Coded.{ofHead}
 use borrow.Author.Needs.{needs}
 use Rattle.sendurafi.proofs.reader.sendurafi_read.Statement.{statement}
 use Rattle.sendurafi.proofs.reader.sendurafi_read.Tie as tie

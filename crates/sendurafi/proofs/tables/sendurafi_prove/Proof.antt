@@ -1,6 +1,6 @@
 -- `sendurafi::tables::sendurafi_prove` meets its contract: it passes on. Assumes nothing.
 use mathlib.Core.Path.{ap, _∙_}
-use Rattle.sendurafi.specs.Coded.{ofDone}
+use Rattle.coded.specs.Coded.{ofDone}
 use borrow.Author.Needs.{needs}
 use Rattle.sendurafi.proofs.tables.sendurafi_prove.Statement.{statement}
 use Rattle.sendurafi.proofs.tables.sendurafi_prove.Tie as tie

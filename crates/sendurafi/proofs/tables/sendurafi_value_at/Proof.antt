@@ -1,6 +1,6 @@
 -- `sendurafi::tables::sendurafi_value_at` meets its contract: it passes on. Assumes nothing.
 use mathlib.Core.Path.{ap, _∙_}
-use Rattle.sendurafi.specs.Coded.{ofNumber}
+use Rattle.coded.specs.Coded.{ofNumber}
 use borrow.Author.Needs.{needs}
 use Rattle.sendurafi.proofs.tables.sendurafi_value_at.Statement.{statement}
 use Rattle.sendurafi.proofs.tables.sendurafi_value_at.Tie as tie
