@@ -5,7 +5,7 @@ use super::lists::list;
 use super::lists::part;
 use super::show;
 use narrow_prover::prove::prove;
-use narrow_tables::value::true_sum;
+use narrow_tables::sum::true_sum;
 use narrow_tables::value::value_at;
 
 // Code 10.

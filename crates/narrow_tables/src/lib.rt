@@ -1,2 +1,3 @@
-// Lent tables over the narrow field (document 01): `value` has the true sum and the value of f at a point.
+// Lent tables over the narrow field (document 01): `sum` has the true sum, `value` the value of f at a point.
+pub mod sum;
 pub mod value;

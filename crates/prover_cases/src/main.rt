@@ -3,7 +3,7 @@
 mod show;
 
 use narrow_prover::prove::prove;
-use narrow_tables::value::true_sum;
+use narrow_tables::sum::true_sum;
 use narrow_tables::value::value_at;
 use show::answer;
 use show::list;

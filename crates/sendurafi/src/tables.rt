@@ -7,7 +7,7 @@ use coded::Answer;
 use coded::code::of_number;
 use coded::code::of_proof;
 use narrow_prover::prove::prove;
-use narrow_tables::value::true_sum;
+use narrow_tables::sum::true_sum;
 use narrow_tables::value::value_at;
 
 // The true sum of lent tables.

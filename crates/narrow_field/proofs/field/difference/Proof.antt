@@ -1,23 +1,21 @@
--- `narrow_field::field::difference` meets its contract: refusal 5 by the test, else the value. Assumes nothing.
-use mathlib.Core.Path.{sym, ap, _∙_}
-use mathlib.Core.List.{[]}
-use Rattle.refusals.specs.First.{given}
-use Rattle.refusals.proofs.First.{turned, passed}
+-- `narrow_field::field::difference` meets its contract: the test and the value are those of its definition. Assumes nothing.
+use mathlib.Core.Path.{_∙_}
 use borrow.Author.Needs.{needs}
+use Rattle.narrow_field.proofs.Judged.{judged-as}
 use Rattle.narrow_field.proofs.field.difference.Statement.{statement}
 use Rattle.narrow_field.proofs.field.difference.Tie as tie
 
 one-outside-requires : tie.Need-one-outside-requires
 one-outside-requires c κs = search needs
 
-returns : tie.Need-returns
-returns c = turned 5 [] _ (sym (c .before .one-outside .ensures) ∙ c .if1 .taken)
-
 less-requires : tie.Need-less-requires
 less-requires c κs = search needs
 
-returns-2 : tie.Need-returns-2
-returns-2 c = ap given (c .less .ensures) ∙ passed 5 [] _ (sym (c .before .before .one-outside .ensures) ∙ c .before .if1 .left)
+judged-requires : tie.Need-judged-requires
+judged-requires c κs = search needs
+
+returns : tie.Need-returns
+returns c = c .judged .ensures ∙ judged-as (c .before .before .one-outside .ensures) (c .before .less .ensures)
 
 pub difference-spec : {M : Type 1} → statement M
-difference-spec = tie.close (tie.spec one-outside-requires returns less-requires returns-2)
+difference-spec = tie.close (tie.spec one-outside-requires less-requires judged-requires returns)

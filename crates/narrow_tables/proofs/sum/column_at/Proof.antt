@@ -1,4 +1,4 @@
--- `narrow_tables::value::column_at` meets its contract: what is done times the product of the parts that are left is the whole product. Assumes nothing.
+-- `narrow_tables::sum::column_at` meets its contract: what is done times the product of the parts that are left is the whole product. Assumes nothing.
 use mathlib.Core.Path.{_≡_, sym, ap, _∙_}
 use mathlib.Core.List.{List}
 use Prim.Native.Nat.{ℕ, _+_, _*_, _-_, _<_}
@@ -11,8 +11,8 @@ use Rattle.sumcheck.proofs.Parts.{productLeft, product-start, product-step, pro
 use Rattle.narrow_field.specs.Narrow.{p}
 use borrow.Author.Needs.{needs}
 use native.Mathlib.Omega.{arith}
-use Rattle.narrow_tables.proofs.value.column_at.Statement.{statement}
-use Rattle.narrow_tables.proofs.value.column_at.Tie as tie
+use Rattle.narrow_tables.proofs.sum.column_at.Statement.{statement}
+use Rattle.narrow_tables.proofs.sum.column_at.Tie as tie
 
 abbrev Inv-loop : tie.InvT-loop
 Inv-loop tables count places i value₀ start₀ left₀ value start left =

@@ -1,4 +1,4 @@
--- `narrow_tables::value::true_sum` meets its contract: the refusals by their tests, in order; then the sum over the places. Assumes nothing.
+-- `narrow_tables::sum::true_sum` meets its contract: the refusals by their tests, in order; then the sum over the places. Assumes nothing.
 use mathlib.Core.Path.{sym, ap, ap₂, _∙_}
 use mathlib.Core.List.{map}
 use Prim.Native.Nat.{ℕ}
@@ -12,8 +12,8 @@ use Rattle.sumcheck.proofs.Halves.{column, sum-columns}
 use Rattle.narrow_field.specs.Narrow.{p}
 use borrow.Author.Needs.{needs}
 use native.Mathlib.Omega.{arith}
-use Rattle.narrow_tables.proofs.value.true_sum.Statement.{statement}
-use Rattle.narrow_tables.proofs.value.true_sum.Tie as tie
+use Rattle.narrow_tables.proofs.sum.true_sum.Statement.{statement}
+use Rattle.narrow_tables.proofs.sum.true_sum.Tie as tie
 
 tables-requires : tie.Need-tables-requires
 tables-requires c κs = search needs

@@ -1,4 +1,4 @@
--- `narrow_tables::value::sum_of` meets its contract: the total is the sum over the places from i on. Assumes nothing.
+-- `narrow_tables::sum::sum_of` meets its contract: the total is the sum over the places from i on. Assumes nothing.
 use mathlib.Core.Path.{_≡_, sym, ap, ap₂, _∙_}
 use mathlib.Core.List.{List, [], _∷_, map}
 use Prim.Native.Nat.{ℕ, _+_, _-_, _≤_}
@@ -12,8 +12,8 @@ use Rattle.sumcheck.proofs.Halves.{column}
 use Rattle.narrow_field.specs.Narrow.{p}
 use borrow.Author.Needs.{needs}
 use native.Mathlib.Omega.{arith}
-use Rattle.narrow_tables.proofs.value.sum_of.Statement.{statement}
-use Rattle.narrow_tables.proofs.value.sum_of.Tie as tie
+use Rattle.narrow_tables.proofs.sum.sum_of.Statement.{statement}
+use Rattle.narrow_tables.proofs.sum.sum_of.Tie as tie
 
 abbrev Inv-loop : tie.InvT-loop
 Inv-loop tables count places total₀ i₀ total i = (i ≤ places) × (total ≡ sum p (map (column p (parts count places tables)) (countFrom i (places - i))))
