@@ -13,7 +13,8 @@ import unittest
 ROOT = pathlib.Path(__file__).resolve().parents[2]
 HEADER = ROOT / "client/include/sendurafi.h"
 RUST = ROOT / "client/rust/src"
-RATTLE = ROOT / "crates/sendurafi/src"
+# The functions for C, and the structs that they answer.
+RATTLE = [ROOT / "crates/sendurafi/src", ROOT / "crates/coded/src"]
 ARCHIVE = os.environ.get("SENDURAFI_ARCHIVE", str(ROOT / "target/staticlib/libsendurafi.a"))
 NM = os.environ.get("NM", "nm")
 
@@ -127,8 +128,8 @@ class SameNames(unittest.TestCase):
         self.compare(rust_like((RUST / "ffi.rs").read_text()))
 
     def test_rattle(self):
-        sources = sorted(RATTLE.glob("**/*.rt"))
-        self.assertTrue(sources, "no Rattle source in crates/sendurafi/src")
+        sources = [source for folder in RATTLE for source in sorted(folder.glob("**/*.rt"))]
+        self.assertTrue(sources, f"no Rattle source in {RATTLE}")
         text = "\n".join(source.read_text() for source in sources)
         self.compare(rust_like(text))
         exported = re.findall(r"#\[no_mangle\]\s*pub extern \"C\" fn (\w+)", text)
