@@ -2,7 +2,7 @@
 -- rounds one by one. Assumes nothing.
 use mathlib.Core.Path.{_≡_, refl, sym, ap, fun-ext, _∙_}
 use mathlib.Core.Bool.{Bool, true, false}
-use mathlib.Core.List.{List}
+use mathlib.Core.List.{List, []}
 use Prim.Native.Nat.{ℕ, suc, _+_, _-_, _≤_, _<_}
 use native.Mathlib.Omega.{arith}
 use native.Mathlib.Numerals.{add-one}
@@ -15,14 +15,16 @@ use Rattle.layout.specs.Line.{Outcome, fault, found, lineAt, andThen, before}
 use Rattle.layout.specs.Line as layout
 use Rattle.layout.specs.Answer.{Answer, file, refused, answerThen, only, linesAt, fromAfter, fromEnd, editionLine, fieldLine, varsLine, degreeLine, claimLine, roundLine, endLine}
 use Rattle.layout.proofs.Tests.{between-in, between-low, between-high}
-use Rattle.narrow_file.specs.declared.line.Wanted.{Wanted}
-use Rattle.narrow_file.specs.declared.line.Line.{Line}
-use Rattle.narrow_file.specs.declared.line.Line.the-variants.{Refused, Found}
+use Rattle.file_line.specs.declared.line.Wanted.{Wanted}
+use Rattle.file_line.specs.declared.line.Line.{Line}
+use Rattle.file_line.specs.declared.line.Line.the-variants.{Refused, Found}
 use Rattle.narrow_field.specs.Narrow.{p}
 use Rattle.narrow_file.specs.Narrow.{narrow}
-use Rattle.narrow_file.specs.Steps.{stopped, went, brief, saidLine, lineWanted}
+use Rattle.file_line.specs.declared.line.Word.the-variants.{Sumproof, Field, Vars, Degree, Claim, Round, End}
+use Rattle.file_line.specs.OneLine.{brief, said, lineWanted}
 use Rattle.narrow_file.specs.Passes.{bare}
-use Rattle.narrow_file.proofs.Runs.{drop-here}
+use Rattle.file_line.proofs.Runs.{drop-here}
+use Rattle.file_line.proofs.Told.{told-refused, told-found, then-found}
 
 -- what the code wants of each line
 abbrev pub editionWanted : Wanted
@@ -72,50 +74,30 @@ allows : (word : List ℕ) (count most : ℕ) (f g : ℕ → Bool) → ((n : ℕ
     → _≡_ {A = layout.Line} (record { word = word; count = count; most = most; allowed = f }) (record { word = word; count = count; most = most; allowed = g })
 allows word count most f g h = ap (λ (test : ℕ → Bool). record { word = word; count = count; most = most; allowed = test }) (fun-ext h)
 
-pub edition-line : lineWanted (editionLine narrow .word) editionWanted ≡ editionLine narrow
+pub edition-line : lineWanted Sumproof editionWanted ≡ editionLine narrow
 edition-line = allows _ _ _ _ _ (between-exact 1)
 
-pub field-line : lineWanted (fieldLine narrow .word) fieldWanted ≡ fieldLine narrow
+pub field-line : lineWanted Field fieldWanted ≡ fieldLine narrow
 field-line = allows _ _ _ _ _ (between-exact p)
 
-pub vars-line : lineWanted (varsLine narrow .word) varsWanted ≡ varsLine narrow
+pub vars-line : lineWanted Vars varsWanted ≡ varsLine narrow
 vars-line = allows _ _ _ _ _ (between-upto maxVars)
 
-pub degree-line : lineWanted (degreeLine narrow .word) degreeWanted ≡ degreeLine narrow
+pub degree-line : lineWanted Degree degreeWanted ≡ degreeLine narrow
 degree-line = refl
 
-pub claim-line : lineWanted (claimLine narrow .word) claimWanted ≡ claimLine narrow
+pub claim-line : lineWanted Claim claimWanted ≡ claimLine narrow
 claim-line = allows _ _ _ _ _ (λ n. between-below (p - 1) p n refl)
 
-pub round-line : (n degree : ℕ) → lineWanted (roundLine narrow degree .word) (roundWanted n degree) ≡ roundLine narrow degree
+pub round-line : (n degree : ℕ) → lineWanted Round (roundWanted n degree) ≡ roundLine narrow degree
 round-line n degree = allows _ _ _ _ _ (λ m. between-below (p - 1) p m refl)
 
-pub end-line : (n vars : ℕ) → lineWanted (endLine narrow vars .word) (endWanted n vars) ≡ endLine narrow vars
+pub end-line : (n vars : ℕ) → lineWanted End (endWanted n vars) ≡ endLine narrow vars
 end-line n vars = allows _ _ _ _ _ (between-exact vars)
-
--- what the answer of a line says of the answer that goes on from it
-module _ (bytes : List ℕ) (at n : ℕ) {wanted line : layout.Line} (same : wanted ≡ line) (r : Line) (says : saidLine bytes r ≡ brief (lineAt n wanted (drop at bytes))) where
-  outcome-is : brief (lineAt n line (drop at bytes)) ≡ saidLine bytes r
-  outcome-is = ap (λ (l : layout.Line). brief (lineAt n l (drop at bytes))) (sym same) ∙ sym says
-
-  pub then-refused : {number m : ℕ} (next : List ℕ → List ℕ → Answer) → r ≡ Refused number m → refused number m ≡ answerThen (lineAt n line (drop at bytes)) next
-  then-refused {number} {m} next e = go (lineAt n line (drop at bytes)) (outcome-is ∙ ap (saidLine bytes) e)
-    where
-      go : (o : Outcome) → brief o ≡ stopped number m → refused number m ≡ answerThen o next
-      go (fault a b) f = cc
-      go (found ns rest) f = absurd (let z : _≡_ {A = ℕ} 0 1 = cc in omega arith)
-
-  pub then-found : {last place : ℕ} (next : ℕ → List ℕ → Answer) → r ≡ Found last place
-      → next last (drop place bytes) ≡ answerThen (lineAt n line (drop at bytes)) (λ ns rest. next (only ns) rest)
-  then-found {last} {place} next e = go (lineAt n line (drop at bytes)) (outcome-is ∙ ap (saidLine bytes) e)
-    where
-      go : (o : Outcome) → brief o ≡ went last (drop place bytes) → next last (drop place bytes) ≡ answerThen o (λ ns rest. next (only ns) rest)
-      go (fault a b) f = absurd (let z : _≡_ {A = ℕ} 0 1 = cc in omega arith)
-      go (found ns rest) f = cc
 
 -- after the `end` line: something, or nothing
 module _ (bytes : List ℕ) (at v d c : ℕ) (cs : List ℕ) (r : Line)
-    (says : saidLine bytes r ≡ brief (lineAt (v + 6) (lineWanted (endLine narrow v .word) (endWanted (v + 6) v)) (drop at bytes))) where
+    (says : said r ≡ brief (length bytes) (lineAt (v + 6) (lineWanted End (endWanted (v + 6) v)) (drop at bytes))) where
   pub end-some : {last place : ℕ} → r ≡ Found last place → place < length bytes → refused 13 (v + 7) ≡ fromEnd narrow v d c cs (drop at bytes)
   unfolding fromEnd
   end-some {last} {place} e h =
@@ -133,35 +115,26 @@ bare-before : (ns : List ℕ) (o : Outcome) → bare (before ns o) ≡ bare o
 bare-before ns (fault a b) = refl
 bare-before ns (found ms rest) = refl
 
-module _ (bytes : List ℕ) (at n : ℕ) {wanted line : layout.Line} (same : wanted ≡ line) (r : Line) (says : saidLine bytes r ≡ brief (lineAt n wanted (drop at bytes))) where
-  lines-refused : (more : ℕ) {number m : ℕ} → r ≡ Refused number m → stopped number m ≡ bare (linesAt n (suc more) line (drop at bytes))
+module _ (bytes : List ℕ) (at n : ℕ) {wanted line : layout.Line} (same : wanted ≡ line) (r : Line)
+    (says : said r ≡ brief (length bytes) (lineAt n wanted (drop at bytes))) where
+  lines-refused : (more : ℕ) {number m : ℕ} → r ≡ Refused number m → fault number m ≡ bare (linesAt n (suc more) line (drop at bytes))
   unfolding linesAt
-  lines-refused more {number} {m} e = go (lineAt n line (drop at bytes)) (outcome-is bytes at n same r says ∙ ap (saidLine bytes) e)
-    where
-      go : (o : Outcome) → brief o ≡ stopped number m → stopped number m ≡ bare (andThen o (λ rest. linesAt (suc n) more line rest))
-      go (fault a b) f = cc
-      go (found ns rest) f = absurd (let z : _≡_ {A = ℕ} 0 1 = cc in omega arith)
+  lines-refused more e = rw (told-refused bytes at n same r says e)
 
   lines-found : (more : ℕ) {last place : ℕ} → r ≡ Found last place
       → bare (linesAt (n + 1) more line (drop place bytes)) ≡ bare (linesAt n (suc more) line (drop at bytes))
   unfolding linesAt
-  lines-found more {last} {place} e =
-      ap (λ (m : ℕ). bare (linesAt m more line (drop place bytes))) (add-one n)
-      ∙ go (lineAt n line (drop at bytes)) (outcome-is bytes at n same r says ∙ ap (saidLine bytes) e)
-    where
-      go : (o : Outcome) → brief o ≡ went last (drop place bytes) → bare (linesAt (suc n) more line (drop place bytes)) ≡ bare (andThen o (λ rest. linesAt (suc n) more line rest))
-      go (fault a b) f = absurd (let z : _≡_ {A = ℕ} 0 1 = cc in omega arith)
-      go (found ns rest) f =
-          let r : drop place bytes ≡ rest = cc in
-          ap (λ (s : List ℕ). bare (linesAt (suc n) more line s)) r ∙ sym (bare-before ns (linesAt (suc n) more line rest))
+  lines-found more {place} e =
+      let t = told-found bytes at n same r says e in
+      rw (t .1, add-one n) (sym (bare-before (t .0) (linesAt (suc n) more line (drop place bytes))))
 
 -- round j + 1 of so many, on line j + 6
 module _ (bytes : List ℕ) (at vars degree j : ℕ) (h : j < vars) (r : Line)
-    (says : saidLine bytes r ≡ brief (lineAt (j + 6) (lineWanted (roundLine narrow degree .word) (roundWanted (j + 6) degree)) (drop at bytes))) where
+    (says : said r ≡ brief (length bytes) (lineAt (j + 6) (lineWanted Round (roundWanted (j + 6) degree)) (drop at bytes))) where
   left : vars - j ≡ suc (vars - (j + 1))
   left = omega arith
 
-  pub round-refused : {number m : ℕ} → r ≡ Refused number m → stopped number m ≡ bare (linesAt (j + 6) (vars - j) (roundLine narrow degree) (drop at bytes))
+  pub round-refused : {number m : ℕ} → r ≡ Refused number m → fault number m ≡ bare (linesAt (j + 6) (vars - j) (roundLine narrow degree) (drop at bytes))
   round-refused e = rw left (lines-refused bytes at (j + 6) (round-line (j + 6) degree) r says (vars - (j + 1)) e)
 
   pub round-found : {last place : ℕ} → r ≡ Found last place
@@ -173,6 +146,6 @@ module _ (bytes : List ℕ) (at vars degree j : ℕ) (h : j < vars) (r : Line)
       ∙ ap (λ (n : ℕ). bare (linesAt (j + 6) n (roundLine narrow degree) (drop at bytes))) (sym left))
 
 -- no round is left
-pub round-none : (s : List ℕ) (vars degree j : ℕ) → vars ≤ j → went 0 s ≡ bare (linesAt (j + 6) (vars - j) (roundLine narrow degree) s)
+pub round-none : (s : List ℕ) (vars degree j : ℕ) → vars ≤ j → found [] s ≡ bare (linesAt (j + 6) (vars - j) (roundLine narrow degree) s)
 unfolding linesAt
 round-none s vars degree j h = let e : vars - j ≡ 0 = omega arith in rw e

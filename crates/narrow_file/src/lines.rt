@@ -5,11 +5,11 @@ ghost use lib.ListN.{take, drop};
 ghost use Rattle.refusals.specs.Limits.{maxVars};
 ghost use Rattle.layout.specs.Answer.{answer, fromEdition, fromField, fromVars, fromDegree, fromClaim, fromRounds, fromEnd, linesAt, roundLine};
 ghost use Rattle.narrow_file.specs.Narrow.{narrow};
-ghost use Rattle.narrow_file.specs.Steps.{saidLine};
-ghost use Rattle.narrow_file.specs.Passes.{saidJudged, collect, bare};
-use crate::line;
-use crate::line::Line;
-use crate::line::Wanted;
+ghost use Rattle.narrow_file.specs.Passes.{saidJudged, collect, saidRounds, bare};
+use file_line::line;
+use file_line::line::Line;
+use file_line::line::Wanted;
+use file_line::line::Word;
 
 // What the first pass finds: a refusal; or the file's head, and where its rounds start.
 pub enum Judged {
@@ -56,7 +56,7 @@ fn from_end(bytes: &[u8], at: usize, vars: u32, degree: u32, claim: u32, rounds:
         low: vars as u64,
         high: vars as u64,
     };
-    let found = line::line_at(bytes, at, b"end", wanted);
+    let found = line::line_at(bytes, at, Word::End, wanted);
     match found {
         Line::Refused { number, line } => Judged::Refused { number, line }, // nothing is written yet
         Line::Found { last: _, next } => {
@@ -80,7 +80,7 @@ fn from_end(bytes: &[u8], at: usize, vars: u32, degree: u32, claim: u32, rounds:
 // The rounds, each on a line of its own: where the line after them starts.
 fn rounds_at(bytes: &[u8], at: usize, vars: u32, degree: u32) -> Line
     requires { ⌜ vars ≤ maxVars ⌝ }
-    ensures { λ r. ⌜ saidLine (now (bytes .entry)) r ≡ bare (linesAt 6 vars (roundLine narrow degree) (drop at (now (bytes .entry)))) ⌝ }
+    ensures { λ r. ⌜ saidRounds (now (bytes .entry)) r ≡ bare (linesAt 6 vars (roundLine narrow degree) (drop at (now (bytes .entry)))) ⌝ }
 {
     let mut place = at;
     let mut j: u32 = 0;
@@ -93,7 +93,7 @@ fn rounds_at(bytes: &[u8], at: usize, vars: u32, degree: u32) -> Line
             low: 0,
             high: LAST,
         };
-        let found = line::line_at(bytes, place, b"round", wanted);
+        let found = line::line_at(bytes, place, Word::Round, wanted);
         match found {
             Line::Refused { number, line } => {
                 return Line::Refused { number, line };
@@ -134,7 +134,7 @@ fn from_claim(bytes: &[u8], at: usize, vars: u32, degree: u32) -> Judged
         low: 0,
         high: LAST,
     };
-    let found = line::line_at(bytes, at, b"claim", wanted);
+    let found = line::line_at(bytes, at, Word::Claim, wanted);
     match found {
         Line::Refused { number, line } => Judged::Refused { number, line },
         Line::Found { last, next } => from_rounds(bytes, next, vars, degree, last as u32),
@@ -153,7 +153,7 @@ fn from_degree(bytes: &[u8], at: usize, vars: u32) -> Judged
         low: 1,
         high: MOST_DEGREE,
     };
-    let found = line::line_at(bytes, at, b"degree", wanted);
+    let found = line::line_at(bytes, at, Word::Degree, wanted);
     match found {
         Line::Refused { number, line } => Judged::Refused { number, line },
         Line::Found { last, next } => from_claim(bytes, next, vars, last as u32),
@@ -171,7 +171,7 @@ fn from_vars(bytes: &[u8], at: usize) -> Judged
         low: 0,
         high: MOST_VARS,
     };
-    let found = line::line_at(bytes, at, b"vars", wanted);
+    let found = line::line_at(bytes, at, Word::Vars, wanted);
     match found {
         Line::Refused { number, line } => Judged::Refused { number, line },
         Line::Found { last, next } => from_degree(bytes, next, last as u32),
@@ -189,7 +189,7 @@ fn from_field(bytes: &[u8], at: usize) -> Judged
         low: P,
         high: P,
     };
-    let found = line::line_at(bytes, at, b"field", wanted);
+    let found = line::line_at(bytes, at, Word::Field, wanted);
     match found {
         Line::Refused { number, line } => Judged::Refused { number, line },
         Line::Found { last: _, next } => from_vars(bytes, next),
@@ -207,7 +207,7 @@ fn from_edition(bytes: &[u8], at: usize) -> Judged
         low: EDITION,
         high: EDITION,
     };
-    let found = line::line_at(bytes, at, b"sumproof", wanted);
+    let found = line::line_at(bytes, at, Word::Sumproof, wanted);
     match found {
         Line::Refused { number, line } => Judged::Refused { number, line },
         Line::Found { last: _, next } => from_field(bytes, next),
