@@ -4,6 +4,7 @@
 --   Verdict   the machine over numbers
 --   Words     the machine over a whole line comes to what the layout says
 --   Runs      the machine from a place of the bytes on
+--   Asked     the layout's tests, as a least and a greatest number
 --   Told      what a line's answer tells of the bytes, for a reader that goes on from it
 --   Pinned    no two answers say the same
 pub mod Paths
@@ -11,5 +12,6 @@ pub mod Machine
 pub mod Verdict
 pub mod Words
 pub mod Runs
+pub mod Asked
 pub mod Told
 pub mod Pinned

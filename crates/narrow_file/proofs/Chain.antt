@@ -1,103 +1,56 @@
--- From line to line: the lines that the code wants are the layout's, what a line's answer says of the answer that goes on from it, and the
--- rounds one by one. Assumes nothing.
-use mathlib.Core.Path.{_≡_, refl, sym, ap, fun-ext, _∙_}
-use mathlib.Core.Bool.{Bool, true, false}
+-- From line to line: the lines that the code wants are the layout's, what stands after the `end` line, and the rounds one by one. Assumes
+-- nothing.
+use mathlib.Core.Path.{_≡_, refl, sym, ap, _∙_}
 use mathlib.Core.List.{List, []}
 use Prim.Native.Nat.{ℕ, suc, _+_, _-_, _≤_, _<_}
 use native.Mathlib.Omega.{arith}
 use native.Mathlib.Numerals.{add-one}
 use lib.ListN.{length, drop, drop-of-length-le}
-use lib.Dec.{leb, ltb, eqb, leb·zero}
-use borrow.Author.Tests.{eqb-true, eqb-false, leb-true, leb-false, lt-ltb, le-ltb}
 use Rattle.refusals.specs.Limits.{maxVars, maxDegree}
-use Rattle.layout.specs.Bytes.{between}
-use Rattle.layout.specs.Line.{Outcome, fault, found, lineAt, andThen, before}
+use Rattle.layout.specs.Line.{Outcome, fault, found, lineAt, before}
 use Rattle.layout.specs.Line as layout
-use Rattle.layout.specs.Answer.{Answer, file, refused, answerThen, only, linesAt, fromAfter, fromEnd, editionLine, fieldLine, varsLine, degreeLine, claimLine, roundLine, endLine}
-use Rattle.layout.proofs.Tests.{between-in, between-low, between-high}
+use Rattle.layout.specs.Answer.{file, refused, linesAt, fromAfter, fromEnd, editionLine, fieldLine, varsLine, degreeLine, claimLine, roundLine, endLine}
+use Rattle.file_line.specs.declared.line.Word.the-variants.{Sumproof, Field, Vars, Degree, Claim, Round, End}
 use Rattle.file_line.specs.declared.line.Wanted.{Wanted}
 use Rattle.file_line.specs.declared.line.Line.{Line}
 use Rattle.file_line.specs.declared.line.Line.the-variants.{Refused, Found}
-use Rattle.narrow_field.specs.Narrow.{p}
-use Rattle.narrow_file.specs.Narrow.{narrow}
-use Rattle.file_line.specs.declared.line.Word.the-variants.{Sumproof, Field, Vars, Degree, Claim, Round, End}
 use Rattle.file_line.specs.OneLine.{brief, said, lineWanted}
-use Rattle.narrow_file.specs.Passes.{bare}
+use Rattle.file_line.proofs.Asked.{between-exact, between-upto, between-below, allowed-same}
 use Rattle.file_line.proofs.Runs.{drop-here}
 use Rattle.file_line.proofs.Told.{told-refused, told-found, then-found}
+use Rattle.narrow_field.specs.Narrow.{p}
+use Rattle.narrow_file.specs.Narrow.{narrow}
+use Rattle.narrow_file.specs.Passes.{oneNumber, bare}
 
--- what the code wants of each line
-abbrev pub editionWanted : Wanted
-editionWanted = record { line = 1; commas = 0; digits = 10; low = 1; high = 1 }
-
-abbrev pub fieldWanted : Wanted
-fieldWanted = record { line = 2; commas = 0; digits = 10; low = p; high = p }
-
-abbrev pub varsWanted : Wanted
-varsWanted = record { line = 3; commas = 0; digits = 10; low = 0; high = maxVars }
-
-abbrev pub degreeWanted : Wanted
-degreeWanted = record { line = 4; commas = 0; digits = 10; low = 1; high = maxDegree }
-
-abbrev pub claimWanted : Wanted
-claimWanted = record { line = 5; commas = 0; digits = 10; low = 0; high = p - 1 }
-
+-- what the code wants of a round
 abbrev pub roundWanted : ℕ → ℕ → Wanted
 roundWanted n degree = record { line = n; commas = degree; digits = 10; low = 0; high = p - 1 }
 
-abbrev pub endWanted : ℕ → ℕ → Wanted
-endWanted n vars = record { line = n; commas = 0; digits = 10; low = vars; high = vars }
-
-between-exact : (e n : ℕ) → between e e n ≡ eqb n e
-between-exact e n = go (eqb n e) refl
-  where
-    go : (t : Bool) → eqb n e ≡ t → between e e n ≡ t
-    go true h = let z = eqb-true n e h in between-in e e n (omega arith) (omega arith)
-    go false h = order (leb e n) refl (eqb-false n e h)
-      where
-        order : (t : Bool) → leb e n ≡ t → (n ≡ e → ⊥) → between e e n ≡ false
-        order true l z = between-high e e n (omega (arith, leb-true e n l))
-        order false l z = between-low e e n (leb-false e n l)
-
-between-upto : (m n : ℕ) → between 0 m n ≡ leb n m
-between-upto m n = rw (leb·zero n)
-
-between-below : (m q n : ℕ) → q ≡ suc m → between 0 m n ≡ ltb n q
-between-below m q n e = go (leb n m) refl
-  where
-    go : (t : Bool) → leb n m ≡ t → between 0 m n ≡ ltb n q
-    go true h = let z = leb-true n m h in between-upto m n ∙ (h ∙ sym (lt-ltb n q (omega arith)))
-    go false h = let z = leb-false n m h in between-upto m n ∙ (h ∙ sym (le-ltb n q (omega arith)))
-
 -- the lines of the layout, as the code asks for them
-allows : (word : List ℕ) (count most : ℕ) (f g : ℕ → Bool) → ((n : ℕ) → f n ≡ g n)
-    → _≡_ {A = layout.Line} (record { word = word; count = count; most = most; allowed = f }) (record { word = word; count = count; most = most; allowed = g })
-allows word count most f g h = ap (λ (test : ℕ → Bool). record { word = word; count = count; most = most; allowed = test }) (fun-ext h)
+pub edition-line : lineWanted Sumproof (oneNumber 1 1 1) ≡ editionLine narrow
+edition-line = allowed-same _ _ _ _ _ (between-exact 1)
 
-pub edition-line : lineWanted Sumproof editionWanted ≡ editionLine narrow
-edition-line = allows _ _ _ _ _ (between-exact 1)
+pub field-line : lineWanted Field (oneNumber 2 p p) ≡ fieldLine narrow
+field-line = allowed-same _ _ _ _ _ (between-exact p)
 
-pub field-line : lineWanted Field fieldWanted ≡ fieldLine narrow
-field-line = allows _ _ _ _ _ (between-exact p)
+pub vars-line : lineWanted Vars (oneNumber 3 0 maxVars) ≡ varsLine narrow
+vars-line = allowed-same _ _ _ _ _ (between-upto maxVars)
 
-pub vars-line : lineWanted Vars varsWanted ≡ varsLine narrow
-vars-line = allows _ _ _ _ _ (between-upto maxVars)
-
-pub degree-line : lineWanted Degree degreeWanted ≡ degreeLine narrow
+pub degree-line : lineWanted Degree (oneNumber 4 1 maxDegree) ≡ degreeLine narrow
 degree-line = refl
 
-pub claim-line : lineWanted Claim claimWanted ≡ claimLine narrow
-claim-line = allows _ _ _ _ _ (λ n. between-below (p - 1) p n refl)
+pub claim-line : lineWanted Claim (oneNumber 5 0 (p - 1)) ≡ claimLine narrow
+claim-line = allowed-same _ _ _ _ _ (λ n. between-below (p - 1) p n refl)
 
 pub round-line : (n degree : ℕ) → lineWanted Round (roundWanted n degree) ≡ roundLine narrow degree
-round-line n degree = allows _ _ _ _ _ (λ m. between-below (p - 1) p m refl)
+round-line n degree = allowed-same _ _ _ _ _ (λ m. between-below (p - 1) p m refl)
 
-pub end-line : (n vars : ℕ) → lineWanted End (endWanted n vars) ≡ endLine narrow vars
-end-line n vars = allows _ _ _ _ _ (between-exact vars)
+pub end-line : (n vars : ℕ) → lineWanted End (oneNumber n vars vars) ≡ endLine narrow vars
+end-line n vars = allowed-same _ _ _ _ _ (between-exact vars)
 
 -- after the `end` line: something, or nothing
 module _ (bytes : List ℕ) (at v d c : ℕ) (cs : List ℕ) (r : Line)
-    (says : said r ≡ brief (length bytes) (lineAt (v + 6) (lineWanted End (endWanted (v + 6) v)) (drop at bytes))) where
+    (says : said r ≡ brief (length bytes) (lineAt (v + 6) (lineWanted End (oneNumber (v + 6) v v)) (drop at bytes))) where
   pub end-some : {last place : ℕ} → r ≡ Found last place → place < length bytes → refused 13 (v + 7) ≡ fromEnd narrow v d c cs (drop at bytes)
   unfolding fromEnd
   end-some {last} {place} e h =

@@ -8,9 +8,14 @@ use Rattle.layout.specs.Bytes.{Class, digit, comma, equals, lineEnd, letter, ot
 use Rattle.layout.specs.Line.{Outcome, fault, found}
 use Rattle.layout.specs.Answer.{Answer, file, refused}
 use Rattle.narrow_file.specs.declared.lines.Judged.{Judged}
+use Rattle.file_line.specs.declared.line.Wanted.{Wanted}
 use Rattle.file_line.specs.declared.line.Line.{Line}
 use Rattle.file_line.specs.declared.line.Line.the-variants as line
 use Rattle.narrow_file.specs.declared.lines.Judged.the-variants.{File, Refused}
+
+-- a line with one number, from the least to the greatest that is allowed
+abbrev pub oneNumber : ℕ → ℕ → ℕ → Wanted
+oneNumber line low high = record { line = line; commas = 0; digits = 10; low = low; high = high }
 
 -- the second pass takes a number's end for the place to store it
 abbrev pub stores : Class → Bool

@@ -1,8 +1,10 @@
 -- `narrow_file::lines::from_degree` meets its contract: a refusal is the line's, and the answer goes on from what the line has. Assumes nothing.
 use Rattle.file_line.specs.declared.line.Word.the-variants.{Degree}
-use Rattle.narrow_file.proofs.Chain.{degreeWanted, degree-line}
+use Rattle.narrow_file.proofs.Chain.{degree-line}
 use Rattle.file_line.proofs.Told.{then-refused, then-found, last-high}
 use Rattle.narrow_file.specs.Narrow.{narrow}
+use Rattle.narrow_file.specs.Passes.{oneNumber}
+use Rattle.refusals.specs.Limits.{maxDegree}
 use Rattle.layout.specs.Answer.{fromDegree, fromClaim}
 use denote.Ref.{now}
 use native.Mathlib.Omega.{arith}
@@ -11,8 +13,8 @@ use borrow.Author.Needs.{needs}
 use Rattle.narrow_file.proofs.lines.from_degree.Statement.{statement}
 use Rattle.narrow_file.proofs.lines.from_degree.Tie as tie
 
-line-at-requires : tie.Need-line-at-requires
-line-at-requires c κs = search needs
+one-number-requires : tie.Need-one-number-requires
+one-number-requires c κs = search needs
 
 enum-known-found : tie.Need-enum-known-found
 enum-known-found c = search needs
@@ -22,7 +24,7 @@ enum-known-found-2 c = search needs
 
 cast-from-claim : tie.Need-cast-from-claim
 cast-from-claim c =
-    omega (arith, last-high (now (c .before .before .before .before .before .args .bytes)) (c .before .before .before .before .before .args .at) 4 Degree degreeWanted _ (c .before .before .before .line-at .ensures) (c .before .found2 .given .1))
+    omega (arith, last-high (now (c .before .before .before .before .before .args .bytes)) (c .before .before .before .before .before .args .at) 4 Degree (oneNumber 4 1 maxDegree) _ (c .before .before .before .one-number .ensures) (c .before .found2 .given .1))
 
 from-claim-requires : tie.Need-from-claim-requires
 from-claim-requires c κs = search needs
@@ -31,20 +33,20 @@ returns : tie.Need-returns
 unfolding fromDegree
 returns c =
     let a = c .before .before .before .before .before .args in
-    then-refused (now (a .bytes)) (a .at) 4 degree-line _ (c .before .before .before .line-at .ensures) _ (c .before .found .given .1)
+    then-refused (now (a .bytes)) (a .at) 4 degree-line _ (c .before .before .before .one-number .ensures) _ (c .before .found .given .1)
 
 returns-2 : tie.Need-returns-2
 unfolding fromDegree
 returns-2 c =
     let a = c .before .before .before .before .before .before .args in
     c .from-claim .ensures
-    ∙ then-found (now (a .bytes)) (a .at) 4 degree-line _ (c .before .before .before .before .line-at .ensures) (λ last rest. fromClaim narrow (a .vars) last rest) (c .before .before .found2 .given .1)
+    ∙ then-found (now (a .bytes)) (a .at) 4 degree-line _ (c .before .before .before .before .one-number .ensures) (λ last rest. fromClaim narrow (a .vars) last rest) (c .before .before .found2 .given .1)
 
 pub from-degree-spec : {M : Type 1} → statement M
 from-degree-spec =
     tie.close
     (tie.spec
-    line-at-requires
+    one-number-requires
     enum-known-found
     enum-known-found-2
     cast-from-claim

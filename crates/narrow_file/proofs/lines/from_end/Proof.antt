@@ -14,8 +14,8 @@ add-end c = search needs
 add-after : tie.Need-add-after
 add-after c = search needs
 
-line-at-requires : tie.Need-line-at-requires
-line-at-requires c κs = search needs
+one-number-requires : tie.Need-one-number-requires
+one-number-requires c κs = search needs
 
 enum-known-found : tie.Need-enum-known-found
 enum-known-found c = search needs
@@ -27,17 +27,17 @@ returns : tie.Need-returns
 unfolding fromEnd
 returns c =
     let a = c .before .before .before .before .before .args in
-    then-refused (now (a .bytes)) (a .at) (a .vars + 6) (end-line (a .vars + 6) (a .vars)) _ (c .before .before .before .line-at .ensures) _ (c .before .found .given .1)
+    then-refused (now (a .bytes)) (a .at) (a .vars + 6) (end-line (a .vars + 6) (a .vars)) _ (c .before .before .before .one-number .ensures) _ (c .before .found .given .1)
 
 returns-2 : tie.Need-returns-2
 returns-2 c =
     let a = c .before .before .before .before .before .before .args in
-    end-some (now (a .bytes)) (a .at) (a .vars) (a .degree) (a .claim) _ _ (c .before .before .before .before .line-at .ensures) (c .before .before .found2 .given .1) (c .if1 .taken)
+    end-some (now (a .bytes)) (a .at) (a .vars) (a .degree) (a .claim) _ _ (c .before .before .before .before .one-number .ensures) (c .before .before .found2 .given .1) (c .if1 .taken)
 
 returns-3 : tie.Need-returns-3
 returns-3 c =
     let a = c .before .before .before .before .before .before .args in
-    end-none (now (a .bytes)) (a .at) (a .vars) (a .degree) (a .claim) _ _ (c .before .before .before .before .line-at .ensures) (c .before .before .found2 .given .1) (c .if1 .left)
+    end-none (now (a .bytes)) (a .at) (a .vars) (a .degree) (a .claim) _ _ (c .before .before .before .before .one-number .ensures) (c .before .before .found2 .given .1) (c .if1 .left)
 
 pub from-end-spec : {M : Type 1} → statement M
 from-end-spec =
@@ -45,7 +45,7 @@ from-end-spec =
     (tie.spec
     add-end
     add-after
-    line-at-requires
+    one-number-requires
     enum-known-found
     enum-known-found-2
     returns

@@ -9,8 +9,8 @@ use borrow.Author.Needs.{needs}
 use Rattle.narrow_file.proofs.lines.from_field.Statement.{statement}
 use Rattle.narrow_file.proofs.lines.from_field.Tie as tie
 
-line-at-requires : tie.Need-line-at-requires
-line-at-requires c κs = search needs
+one-number-requires : tie.Need-one-number-requires
+one-number-requires c κs = search needs
 
 enum-known-found : tie.Need-enum-known-found
 enum-known-found c = search needs
@@ -25,20 +25,20 @@ returns : tie.Need-returns
 unfolding fromField
 returns c =
     let a = c .before .before .before .before .before .args in
-    then-refused (now (a .bytes)) (a .at) 2 field-line _ (c .before .before .before .line-at .ensures) _ (c .before .found .given .1)
+    then-refused (now (a .bytes)) (a .at) 2 field-line _ (c .before .before .before .one-number .ensures) _ (c .before .found .given .1)
 
 returns-2 : tie.Need-returns-2
 unfolding fromField
 returns-2 c =
     let a = c .before .before .before .before .before .before .args in
     c .from-vars .ensures
-    ∙ then-found (now (a .bytes)) (a .at) 2 field-line _ (c .before .before .before .before .line-at .ensures) (λ last rest. fromVars narrow rest) (c .before .before .found2 .given .1)
+    ∙ then-found (now (a .bytes)) (a .at) 2 field-line _ (c .before .before .before .before .one-number .ensures) (λ last rest. fromVars narrow rest) (c .before .before .found2 .given .1)
 
 pub from-field-spec : {M : Type 1} → statement M
 from-field-spec =
     tie.close
     (tie.spec
-    line-at-requires
+    one-number-requires
     enum-known-found
     enum-known-found-2
     from-vars-requires
