@@ -27,7 +27,7 @@ use Rattle.file_line.proofs.Machine.{stepsOf, onCut, ran, closed-bad}
 use Rattle.file_line.proofs.Verdict.{none, first-none, verdict, Law, numbers-law}
 
 module _ (w : Wanted) (word : List ℕ) (limit : w .high ≤ greatest) (size : ℕ) where
-  -- the verdict w is what the layout says of the text after `=`
+  -- the verdict is what the layout says of the text after `=`
   verdict-form : (text rest : List ℕ) → verdict w (w .commas) true (size - length rest) (parts text) ≡ brief size (judged (w .line) (lineWith word w) rest (numbersOf (lineWith word w) text))
   unfolding verdict numbersOf
   verdict-form text rest = go (eqb (length (parts text)) (w .commas + 1) && all (isNumber (w .digits)) (parts text)) refl

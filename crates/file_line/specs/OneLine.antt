@@ -50,11 +50,12 @@ pub data Brief : Type 0 where
   stopped : ℕ → ℕ → Brief
   went : ℕ → ℕ → Brief
 
--- of what the layout finds in so many bytes: the next line starts after all but those that are left
+-- what the layout finds, where there are so many bytes in all: the next line starts where the bytes that are left do
 abbrev pub brief : ℕ → Outcome → Brief
 brief size (fault number at) = stopped number at
 brief size (found ns rest) = went (only ns) (size - length rest)
 
+-- what an answer says
 abbrev pub said : Line → Brief
 said (Refused number at) = stopped number at
 said (Found last next) = went last next
