@@ -63,9 +63,9 @@ module _ (bytes : List ℕ) (at n : ℕ) {wanted line : layout.Line} (same : wan
   pub then-refused : {number m : ℕ} (next : List ℕ → List ℕ → Answer) → r ≡ Refused number m → refused number m ≡ answerThen (lineAt n line (drop at bytes)) next
   then-refused next e = rw (told-refused e)
 
-  pub then-found : {last place : ℕ} (next : ℕ → List ℕ → Answer) → r ≡ Found last place
-      → next last (drop place bytes) ≡ answerThen (lineAt n line (drop at bytes)) (λ ns rest. next (only ns) rest)
-  then-found next e = let t = told-found e in rw (t .1, t .2)
+  pub then-found : {last place : ℕ} {answer : Answer} (next : ℕ → List ℕ → Answer) → r ≡ Found last place → answer ≡ next last (drop place bytes)
+      → answer ≡ answerThen (lineAt n line (drop at bytes)) (λ ns rest. next (only ns) rest)
+  then-found next e f = let t = told-found e in rw (t .1, t .2) f
 
 only-high : (low high : ℕ) (ns : List ℕ) → all (between low high) ns ≡ true → only ns ≤ high
 only-high low high [] h = omega arith

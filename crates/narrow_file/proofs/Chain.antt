@@ -53,15 +53,13 @@ module _ (bytes : List ℕ) (at v d c : ℕ) (cs : List ℕ) (r : Line)
     (says : said r ≡ brief (length bytes) (lineAt (v + 6) (lineWanted End (oneNumber (v + 6) v v)) (drop at bytes))) where
   pub end-some : {last place : ℕ} → r ≡ Found last place → place < length bytes → refused 13 (v + 7) ≡ fromEnd narrow v d c cs (drop at bytes)
   unfolding fromEnd
-  end-some {last} {place} e h =
-      rw (drop-here bytes place h)
-      at (then-found bytes at (v + 6) (end-line (v + 6) v) r says (λ n rest. fromAfter v d c cs rest) e)
+  end-some {place} e h =
+      then-found bytes at (v + 6) (end-line (v + 6) v) r says (λ n rest. fromAfter v d c cs rest) e (rw (drop-here bytes place h))
 
   pub end-none : {last place : ℕ} → r ≡ Found last place → length bytes ≤ place → file v d c cs ≡ fromEnd narrow v d c cs (drop at bytes)
   unfolding fromEnd
-  end-none {last} {place} e h =
-      rw (drop-of-length-le bytes h)
-      at (then-found bytes at (v + 6) (end-line (v + 6) v) r says (λ n rest. fromAfter v d c cs rest) e)
+  end-none {place} e h =
+      then-found bytes at (v + 6) (end-line (v + 6) v) r says (λ n rest. fromAfter v d c cs rest) e (rw (drop-of-length-le bytes h))
 
 -- one round more
 bare-before : (ns : List ℕ) (o : Outcome) → bare (before ns o) ≡ bare o

@@ -6,7 +6,7 @@ use native.Mathlib.Omega.{arith}
 use lib.ListN.{take, drop}
 use lib.Seq.{take-at}
 use Rattle.layout.specs.Line.{Outcome, fault, found}
-use Rattle.layout.specs.Answer.{refused, answerThen, linesAt, roundLine, fromRounds, fromEnd}
+use Rattle.layout.specs.Answer.{Answer, refused, answerThen, linesAt, roundLine, fromRounds, fromEnd}
 use Rattle.file_line.specs.declared.line.Line.{Line}
 use Rattle.file_line.specs.declared.line.Line.the-variants.{Refused, Found}
 use Rattle.narrow_file.specs.Narrow.{narrow}
@@ -22,17 +22,17 @@ module _ (bytes : List ℕ) (at v d c : ℕ) (r : Line) (says : saidRounds bytes
       go (fault a b) f = cc
       go (found ns rest) f = absurd (let z : _≡_ {A = ℕ} 0 1 = cc in omega arith)
 
-  pub rounds-found : {last place : ℕ} → r ≡ Found last place
-      → fromEnd narrow v d c (take (v * (d + 1)) (collect 0 (drop at bytes))) (drop place bytes) ≡ fromRounds narrow v d c (drop at bytes)
+  pub rounds-found : {last place : ℕ} {answer : Answer} → r ≡ Found last place
+      → answer ≡ fromEnd narrow v d c (take (v * (d + 1)) (collect 0 (drop at bytes))) (drop place bytes) → answer ≡ fromRounds narrow v d c (drop at bytes)
   unfolding fromRounds
-  rounds-found {last} {place} e = go (linesAt 6 v (roundLine narrow d) (drop at bytes)) refl (sym says ∙ ap (saidRounds bytes) e)
+  rounds-found {place} {answer} e h = go (linesAt 6 v (roundLine narrow d) (drop at bytes)) refl (sym says ∙ ap (saidRounds bytes) e)
     where
       go : (o : Outcome) → linesAt 6 v (roundLine narrow d) (drop at bytes) ≡ o → bare o ≡ found [] (drop place bytes)
-          → fromEnd narrow v d c (take (v * (d + 1)) (collect 0 (drop at bytes))) (drop place bytes) ≡ answerThen o (λ cs rest. fromEnd narrow v d c cs rest)
+          → answer ≡ answerThen o (λ cs rest. fromEnd narrow v d c cs rest)
       go (fault a b) f g = absurd (let z : _≡_ {A = ℕ} 0 1 = cc in omega arith)
       go (found cs rest) f g =
           let q : drop place bytes ≡ rest = cc in
           let k = lines-collected v 6 d (drop at bytes) cs rest f in
           let t : take (v * (d + 1)) (collect 0 (drop at bytes)) ≡ cs =
           ap (take (v * (d + 1))) (k .0) ∙ take-at cs (collect 0 rest) (v * (d + 1)) (k .1) in
-          ap (λ (x : List ℕ). fromEnd narrow v d c x (drop place bytes)) t ∙ ap (fromEnd narrow v d c cs) q
+          h ∙ (ap (λ (x : List ℕ). fromEnd narrow v d c x (drop place bytes)) t ∙ ap (fromEnd narrow v d c cs) q)

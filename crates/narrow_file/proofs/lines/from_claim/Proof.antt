@@ -9,7 +9,6 @@ use Rattle.layout.specs.Answer.{fromClaim, fromRounds}
 use Prim.Native.Nat.{_-_}
 use denote.Ref.{now}
 use native.Mathlib.Omega.{arith}
-use mathlib.Core.Path.{_∙_}
 use borrow.Author.Needs.{needs}
 use Rattle.narrow_file.proofs.lines.from_claim.Statement.{statement}
 use Rattle.narrow_file.proofs.lines.from_claim.Tie as tie
@@ -40,8 +39,7 @@ returns-2 : tie.Need-returns-2
 unfolding fromClaim
 returns-2 c =
     let a = c .before .before .before .before .before .before .args in
-    c .from-rounds .ensures
-    ∙ then-found (now (a .bytes)) (a .at) 5 claim-line _ (c .before .before .before .before .one-number .ensures) (λ last rest. fromRounds narrow (a .vars) (a .degree) last rest) (c .before .before .found2 .given .1)
+    then-found (now (a .bytes)) (a .at) 5 claim-line _ (c .before .before .before .before .one-number .ensures) (λ last rest. fromRounds narrow (a .vars) (a .degree) last rest) (c .before .before .found2 .given .1) (c .from-rounds .ensures)
 
 pub from-claim-spec : {M : Type 1} → statement M
 from-claim-spec =

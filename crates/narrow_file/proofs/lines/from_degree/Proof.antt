@@ -8,7 +8,6 @@ use Rattle.refusals.specs.Limits.{maxDegree}
 use Rattle.layout.specs.Answer.{fromDegree, fromClaim}
 use denote.Ref.{now}
 use native.Mathlib.Omega.{arith}
-use mathlib.Core.Path.{_∙_}
 use borrow.Author.Needs.{needs}
 use Rattle.narrow_file.proofs.lines.from_degree.Statement.{statement}
 use Rattle.narrow_file.proofs.lines.from_degree.Tie as tie
@@ -39,8 +38,7 @@ returns-2 : tie.Need-returns-2
 unfolding fromDegree
 returns-2 c =
     let a = c .before .before .before .before .before .before .args in
-    c .from-claim .ensures
-    ∙ then-found (now (a .bytes)) (a .at) 4 degree-line _ (c .before .before .before .before .one-number .ensures) (λ last rest. fromClaim narrow (a .vars) last rest) (c .before .before .found2 .given .1)
+    then-found (now (a .bytes)) (a .at) 4 degree-line _ (c .before .before .before .before .one-number .ensures) (λ last rest. fromClaim narrow (a .vars) last rest) (c .before .before .found2 .given .1) (c .from-claim .ensures)
 
 pub from-degree-spec : {M : Type 1} → statement M
 from-degree-spec =

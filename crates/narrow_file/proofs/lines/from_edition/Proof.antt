@@ -4,7 +4,6 @@ use Rattle.file_line.proofs.Told.{then-refused, then-found}
 use Rattle.narrow_file.specs.Narrow.{narrow}
 use Rattle.layout.specs.Answer.{fromEdition, fromField}
 use denote.Ref.{now}
-use mathlib.Core.Path.{_∙_}
 use borrow.Author.Needs.{needs}
 use Rattle.narrow_file.proofs.lines.from_edition.Statement.{statement}
 use Rattle.narrow_file.proofs.lines.from_edition.Tie as tie
@@ -31,8 +30,7 @@ returns-2 : tie.Need-returns-2
 unfolding fromEdition
 returns-2 c =
     let a = c .before .before .before .before .before .before .args in
-    c .from-field .ensures
-    ∙ then-found (now (a .bytes)) (a .at) 1 edition-line _ (c .before .before .before .before .one-number .ensures) (λ last rest. fromField narrow rest) (c .before .before .found2 .given .1)
+    then-found (now (a .bytes)) (a .at) 1 edition-line _ (c .before .before .before .before .one-number .ensures) (λ last rest. fromField narrow rest) (c .before .before .found2 .given .1) (c .from-field .ensures)
 
 pub from-edition-spec : {M : Type 1} → statement M
 from-edition-spec =

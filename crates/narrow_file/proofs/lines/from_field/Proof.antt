@@ -4,7 +4,6 @@ use Rattle.file_line.proofs.Told.{then-refused, then-found}
 use Rattle.narrow_file.specs.Narrow.{narrow}
 use Rattle.layout.specs.Answer.{fromField, fromVars}
 use denote.Ref.{now}
-use mathlib.Core.Path.{_∙_}
 use borrow.Author.Needs.{needs}
 use Rattle.narrow_file.proofs.lines.from_field.Statement.{statement}
 use Rattle.narrow_file.proofs.lines.from_field.Tie as tie
@@ -31,8 +30,7 @@ returns-2 : tie.Need-returns-2
 unfolding fromField
 returns-2 c =
     let a = c .before .before .before .before .before .before .args in
-    c .from-vars .ensures
-    ∙ then-found (now (a .bytes)) (a .at) 2 field-line _ (c .before .before .before .before .one-number .ensures) (λ last rest. fromVars narrow rest) (c .before .before .found2 .given .1)
+    then-found (now (a .bytes)) (a .at) 2 field-line _ (c .before .before .before .before .one-number .ensures) (λ last rest. fromVars narrow rest) (c .before .before .found2 .given .1) (c .from-vars .ensures)
 
 pub from-field-spec : {M : Type 1} → statement M
 from-field-spec =

@@ -8,7 +8,6 @@ use Rattle.refusals.specs.Limits.{maxVars}
 use Rattle.layout.specs.Answer.{fromVars, fromDegree}
 use denote.Ref.{now}
 use native.Mathlib.Omega.{arith}
-use mathlib.Core.Path.{_∙_}
 use borrow.Author.Needs.{needs}
 use Rattle.narrow_file.proofs.lines.from_vars.Statement.{statement}
 use Rattle.narrow_file.proofs.lines.from_vars.Tie as tie
@@ -40,8 +39,7 @@ returns-2 : tie.Need-returns-2
 unfolding fromVars
 returns-2 c =
     let a = c .before .before .before .before .before .before .args in
-    c .from-degree .ensures
-    ∙ then-found (now (a .bytes)) (a .at) 3 vars-line _ (c .before .before .before .before .one-number .ensures) (λ last rest. fromDegree narrow last rest) (c .before .before .found2 .given .1)
+    then-found (now (a .bytes)) (a .at) 3 vars-line _ (c .before .before .before .before .one-number .ensures) (λ last rest. fromDegree narrow last rest) (c .before .before .found2 .given .1) (c .from-degree .ensures)
 
 pub from-vars-spec : {M : Type 1} → statement M
 from-vars-spec =
