@@ -6,6 +6,7 @@ use lib.ListN.{length}
 use lib.Dec.{leb, ltb, eqb}
 use Rattle.refusals.specs.First.{choose}
 use Rattle.layout.specs.Bytes.{between}
+use Rattle.layout.specs.Words as words
 use Rattle.layout.specs.Line.{Line, Outcome, fault, found, lineAt, andThen}
 
 -- what may differ between editions and fields
@@ -33,7 +34,7 @@ pub data Answer : Type 0 where
 abbrev pub editionLine : Layout → Line
 editionLine layout =
     record {
-      word = 115 ∷ 117 ∷ 109 ∷ 112 ∷ 114 ∷ 111 ∷ 111 ∷ 102 ∷ [];
+      word = words.sumproof;
       count = 1;
       most = layout .editionDigits;
       allowed = λ n. eqb n (layout .edition);
@@ -43,7 +44,7 @@ editionLine layout =
 abbrev pub fieldLine : Layout → Line
 fieldLine layout =
     record {
-      word = 102 ∷ 105 ∷ 101 ∷ 108 ∷ 100 ∷ [];
+      word = words.field;
       count = 1;
       most = layout .fieldDigits;
       allowed = λ n. eqb n (layout .modulus);
@@ -53,7 +54,7 @@ fieldLine layout =
 abbrev pub varsLine : Layout → Line
 varsLine layout =
     record {
-      word = 118 ∷ 97 ∷ 114 ∷ 115 ∷ [];
+      word = words.vars;
       count = 1;
       most = layout .laterDigits;
       allowed = λ n. leb n (layout .mostVars);
@@ -63,7 +64,7 @@ varsLine layout =
 abbrev pub degreeLine : Layout → Line
 degreeLine layout =
     record {
-      word = 100 ∷ 101 ∷ 103 ∷ 114 ∷ 101 ∷ 101 ∷ [];
+      word = words.degree;
       count = 1;
       most = layout .laterDigits;
       allowed = λ n. between 1 (layout .mostDegree) n;
@@ -73,7 +74,7 @@ degreeLine layout =
 abbrev pub claimLine : Layout → Line
 claimLine layout =
     record {
-      word = 99 ∷ 108 ∷ 97 ∷ 105 ∷ 109 ∷ [];
+      word = words.claim;
       count = 1;
       most = layout .laterDigits;
       allowed = λ n. ltb n (layout .modulus);
@@ -83,7 +84,7 @@ claimLine layout =
 abbrev pub roundLine : Layout → ℕ → Line
 roundLine layout degree =
     record {
-      word = 114 ∷ 111 ∷ 117 ∷ 110 ∷ 100 ∷ [];
+      word = words.round;
       count = layout .perRound degree;
       most = layout .laterDigits;
       allowed = λ n. ltb n (layout .modulus);
@@ -92,7 +93,7 @@ roundLine layout degree =
 -- `end=M`
 abbrev pub endLine : Layout → ℕ → Line
 endLine layout vars =
-    record { word = 101 ∷ 110 ∷ 100 ∷ []; count = 1; most = layout .laterDigits; allowed = λ n. eqb n vars }
+    record { word = words.end; count = 1; most = layout .laterDigits; allowed = λ n. eqb n vars }
 
 -- so many lines of one kind, the first of them numbered `at`: their numbers one after another
 unfoldable pub linesAt : ℕ → ℕ → Line → List ℕ → Outcome

@@ -1,167 +1,91 @@
--- From line to line: the lines that the code wants are the layout's, what a line's answer says of the answer that goes on from it, and the
--- rounds one by one. Assumes nothing.
-use mathlib.Core.Path.{_≡_, refl, sym, ap, fun-ext, _∙_}
-use mathlib.Core.Bool.{Bool, true, false}
-use mathlib.Core.List.{List}
+-- From line to line: the lines that the code wants are the layout's, what stands after the `end` line, and the rounds one by one. Assumes
+-- nothing.
+use mathlib.Core.Path.{_≡_, refl, sym, ap, _∙_}
+use mathlib.Core.List.{List, []}
 use Prim.Native.Nat.{ℕ, suc, _+_, _-_, _≤_, _<_}
 use native.Mathlib.Omega.{arith}
 use native.Mathlib.Numerals.{add-one}
 use lib.ListN.{length, drop, drop-of-length-le}
-use lib.Dec.{leb, ltb, eqb, leb·zero}
-use borrow.Author.Tests.{eqb-true, eqb-false, leb-true, leb-false, lt-ltb, le-ltb}
 use Rattle.refusals.specs.Limits.{maxVars, maxDegree}
-use Rattle.layout.specs.Bytes.{between}
-use Rattle.layout.specs.Line.{Outcome, fault, found, lineAt, andThen, before}
+use Rattle.layout.specs.Line.{Outcome, fault, found, lineAt, before}
 use Rattle.layout.specs.Line as layout
-use Rattle.layout.specs.Answer.{Answer, file, refused, answerThen, only, linesAt, fromAfter, fromEnd, editionLine, fieldLine, varsLine, degreeLine, claimLine, roundLine, endLine}
-use Rattle.layout.proofs.Tests.{between-in, between-low, between-high}
-use Rattle.narrow_file.specs.declared.line.Wanted.{Wanted}
-use Rattle.narrow_file.specs.declared.line.Line.{Line}
-use Rattle.narrow_file.specs.declared.line.Line.the-variants.{Refused, Found}
+use Rattle.layout.specs.Answer.{file, refused, linesAt, fromAfter, fromEnd, editionLine, fieldLine, varsLine, degreeLine, claimLine, roundLine, endLine}
+use Rattle.file_line.specs.declared.line.Word.the-variants.{Sumproof, Field, Vars, Degree, Claim, Round, End}
+use Rattle.file_line.specs.declared.line.Wanted.{Wanted}
+use Rattle.file_line.specs.declared.line.Line.{Line}
+use Rattle.file_line.specs.declared.line.Line.the-variants.{Refused, Found}
+use Rattle.file_line.specs.OneLine.{brief, said, lineWanted}
+use Rattle.file_line.proofs.Asked.{between-exact, between-upto, between-below, allowed-same}
+use Rattle.file_line.proofs.Runs.{drop-here}
+use Rattle.file_line.proofs.Told.{told-refused, told-found, then-found}
 use Rattle.narrow_field.specs.Narrow.{p}
 use Rattle.narrow_file.specs.Narrow.{narrow}
-use Rattle.narrow_file.specs.Steps.{stopped, went, brief, saidLine, lineWanted}
-use Rattle.narrow_file.specs.Passes.{bare}
-use Rattle.narrow_file.proofs.Runs.{drop-here}
+use Rattle.narrow_file.specs.Passes.{oneNumber, bare}
 
--- what the code wants of each line
-abbrev pub editionWanted : Wanted
-editionWanted = record { line = 1; commas = 0; digits = 10; low = 1; high = 1 }
-
-abbrev pub fieldWanted : Wanted
-fieldWanted = record { line = 2; commas = 0; digits = 10; low = p; high = p }
-
-abbrev pub varsWanted : Wanted
-varsWanted = record { line = 3; commas = 0; digits = 10; low = 0; high = maxVars }
-
-abbrev pub degreeWanted : Wanted
-degreeWanted = record { line = 4; commas = 0; digits = 10; low = 1; high = maxDegree }
-
-abbrev pub claimWanted : Wanted
-claimWanted = record { line = 5; commas = 0; digits = 10; low = 0; high = p - 1 }
-
+-- what the code wants of a round
 abbrev pub roundWanted : ℕ → ℕ → Wanted
 roundWanted n degree = record { line = n; commas = degree; digits = 10; low = 0; high = p - 1 }
 
-abbrev pub endWanted : ℕ → ℕ → Wanted
-endWanted n vars = record { line = n; commas = 0; digits = 10; low = vars; high = vars }
-
-between-exact : (e n : ℕ) → between e e n ≡ eqb n e
-between-exact e n = go (eqb n e) refl
-  where
-    go : (t : Bool) → eqb n e ≡ t → between e e n ≡ t
-    go true h = let z = eqb-true n e h in between-in e e n (omega arith) (omega arith)
-    go false h = order (leb e n) refl (eqb-false n e h)
-      where
-        order : (t : Bool) → leb e n ≡ t → (n ≡ e → ⊥) → between e e n ≡ false
-        order true l z = between-high e e n (omega (arith, leb-true e n l))
-        order false l z = between-low e e n (leb-false e n l)
-
-between-upto : (m n : ℕ) → between 0 m n ≡ leb n m
-between-upto m n = rw (leb·zero n)
-
-between-below : (m q n : ℕ) → q ≡ suc m → between 0 m n ≡ ltb n q
-between-below m q n e = go (leb n m) refl
-  where
-    go : (t : Bool) → leb n m ≡ t → between 0 m n ≡ ltb n q
-    go true h = let z = leb-true n m h in between-upto m n ∙ (h ∙ sym (lt-ltb n q (omega arith)))
-    go false h = let z = leb-false n m h in between-upto m n ∙ (h ∙ sym (le-ltb n q (omega arith)))
-
 -- the lines of the layout, as the code asks for them
-allows : (word : List ℕ) (count most : ℕ) (f g : ℕ → Bool) → ((n : ℕ) → f n ≡ g n)
-    → _≡_ {A = layout.Line} (record { word = word; count = count; most = most; allowed = f }) (record { word = word; count = count; most = most; allowed = g })
-allows word count most f g h = ap (λ (test : ℕ → Bool). record { word = word; count = count; most = most; allowed = test }) (fun-ext h)
+pub edition-line : lineWanted Sumproof (oneNumber 1 1 1) ≡ editionLine narrow
+edition-line = allowed-same _ _ _ _ _ (between-exact 1)
 
-pub edition-line : lineWanted (editionLine narrow .word) editionWanted ≡ editionLine narrow
-edition-line = allows _ _ _ _ _ (between-exact 1)
+pub field-line : lineWanted Field (oneNumber 2 p p) ≡ fieldLine narrow
+field-line = allowed-same _ _ _ _ _ (between-exact p)
 
-pub field-line : lineWanted (fieldLine narrow .word) fieldWanted ≡ fieldLine narrow
-field-line = allows _ _ _ _ _ (between-exact p)
+pub vars-line : lineWanted Vars (oneNumber 3 0 maxVars) ≡ varsLine narrow
+vars-line = allowed-same _ _ _ _ _ (between-upto maxVars)
 
-pub vars-line : lineWanted (varsLine narrow .word) varsWanted ≡ varsLine narrow
-vars-line = allows _ _ _ _ _ (between-upto maxVars)
-
-pub degree-line : lineWanted (degreeLine narrow .word) degreeWanted ≡ degreeLine narrow
+pub degree-line : lineWanted Degree (oneNumber 4 1 maxDegree) ≡ degreeLine narrow
 degree-line = refl
 
-pub claim-line : lineWanted (claimLine narrow .word) claimWanted ≡ claimLine narrow
-claim-line = allows _ _ _ _ _ (λ n. between-below (p - 1) p n refl)
+pub claim-line : lineWanted Claim (oneNumber 5 0 (p - 1)) ≡ claimLine narrow
+claim-line = allowed-same _ _ _ _ _ (λ n. between-below (p - 1) p n refl)
 
-pub round-line : (n degree : ℕ) → lineWanted (roundLine narrow degree .word) (roundWanted n degree) ≡ roundLine narrow degree
-round-line n degree = allows _ _ _ _ _ (λ m. between-below (p - 1) p m refl)
+pub round-line : (n degree : ℕ) → lineWanted Round (roundWanted n degree) ≡ roundLine narrow degree
+round-line n degree = allowed-same _ _ _ _ _ (λ m. between-below (p - 1) p m refl)
 
-pub end-line : (n vars : ℕ) → lineWanted (endLine narrow vars .word) (endWanted n vars) ≡ endLine narrow vars
-end-line n vars = allows _ _ _ _ _ (between-exact vars)
-
--- what the answer of a line says of the answer that goes on from it
-module _ (bytes : List ℕ) (at n : ℕ) {wanted line : layout.Line} (same : wanted ≡ line) (r : Line) (says : saidLine bytes r ≡ brief (lineAt n wanted (drop at bytes))) where
-  outcome-is : brief (lineAt n line (drop at bytes)) ≡ saidLine bytes r
-  outcome-is = ap (λ (l : layout.Line). brief (lineAt n l (drop at bytes))) (sym same) ∙ sym says
-
-  pub then-refused : {number m : ℕ} (next : List ℕ → List ℕ → Answer) → r ≡ Refused number m → refused number m ≡ answerThen (lineAt n line (drop at bytes)) next
-  then-refused {number} {m} next e = go (lineAt n line (drop at bytes)) (outcome-is ∙ ap (saidLine bytes) e)
-    where
-      go : (o : Outcome) → brief o ≡ stopped number m → refused number m ≡ answerThen o next
-      go (fault a b) f = cc
-      go (found ns rest) f = absurd (let z : _≡_ {A = ℕ} 0 1 = cc in omega arith)
-
-  pub then-found : {last place : ℕ} (next : ℕ → List ℕ → Answer) → r ≡ Found last place
-      → next last (drop place bytes) ≡ answerThen (lineAt n line (drop at bytes)) (λ ns rest. next (only ns) rest)
-  then-found {last} {place} next e = go (lineAt n line (drop at bytes)) (outcome-is ∙ ap (saidLine bytes) e)
-    where
-      go : (o : Outcome) → brief o ≡ went last (drop place bytes) → next last (drop place bytes) ≡ answerThen o (λ ns rest. next (only ns) rest)
-      go (fault a b) f = absurd (let z : _≡_ {A = ℕ} 0 1 = cc in omega arith)
-      go (found ns rest) f = cc
+pub end-line : (n vars : ℕ) → lineWanted End (oneNumber n vars vars) ≡ endLine narrow vars
+end-line n vars = allowed-same _ _ _ _ _ (between-exact vars)
 
 -- after the `end` line: something, or nothing
 module _ (bytes : List ℕ) (at v d c : ℕ) (cs : List ℕ) (r : Line)
-    (says : saidLine bytes r ≡ brief (lineAt (v + 6) (lineWanted (endLine narrow v .word) (endWanted (v + 6) v)) (drop at bytes))) where
+    (says : said r ≡ brief (length bytes) (lineAt (v + 6) (lineWanted End (oneNumber (v + 6) v v)) (drop at bytes))) where
   pub end-some : {last place : ℕ} → r ≡ Found last place → place < length bytes → refused 13 (v + 7) ≡ fromEnd narrow v d c cs (drop at bytes)
   unfolding fromEnd
-  end-some {last} {place} e h =
-      rw (drop-here bytes place h)
-      at (then-found bytes at (v + 6) (end-line (v + 6) v) r says (λ n rest. fromAfter v d c cs rest) e)
+  end-some {place} e h =
+      then-found bytes at (v + 6) (end-line (v + 6) v) r says (λ n rest. fromAfter v d c cs rest) e (rw (drop-here bytes place h))
 
   pub end-none : {last place : ℕ} → r ≡ Found last place → length bytes ≤ place → file v d c cs ≡ fromEnd narrow v d c cs (drop at bytes)
   unfolding fromEnd
-  end-none {last} {place} e h =
-      rw (drop-of-length-le bytes h)
-      at (then-found bytes at (v + 6) (end-line (v + 6) v) r says (λ n rest. fromAfter v d c cs rest) e)
+  end-none {place} e h =
+      then-found bytes at (v + 6) (end-line (v + 6) v) r says (λ n rest. fromAfter v d c cs rest) e (rw (drop-of-length-le bytes h))
 
 -- one round more
 bare-before : (ns : List ℕ) (o : Outcome) → bare (before ns o) ≡ bare o
 bare-before ns (fault a b) = refl
 bare-before ns (found ms rest) = refl
 
-module _ (bytes : List ℕ) (at n : ℕ) {wanted line : layout.Line} (same : wanted ≡ line) (r : Line) (says : saidLine bytes r ≡ brief (lineAt n wanted (drop at bytes))) where
-  lines-refused : (more : ℕ) {number m : ℕ} → r ≡ Refused number m → stopped number m ≡ bare (linesAt n (suc more) line (drop at bytes))
+module _ (bytes : List ℕ) (at n : ℕ) {wanted line : layout.Line} (same : wanted ≡ line) (r : Line)
+    (says : said r ≡ brief (length bytes) (lineAt n wanted (drop at bytes))) where
+  lines-refused : (more : ℕ) {number m : ℕ} → r ≡ Refused number m → fault number m ≡ bare (linesAt n (suc more) line (drop at bytes))
   unfolding linesAt
-  lines-refused more {number} {m} e = go (lineAt n line (drop at bytes)) (outcome-is bytes at n same r says ∙ ap (saidLine bytes) e)
-    where
-      go : (o : Outcome) → brief o ≡ stopped number m → stopped number m ≡ bare (andThen o (λ rest. linesAt (suc n) more line rest))
-      go (fault a b) f = cc
-      go (found ns rest) f = absurd (let z : _≡_ {A = ℕ} 0 1 = cc in omega arith)
+  lines-refused more e = rw (told-refused bytes at n same r says e)
 
   lines-found : (more : ℕ) {last place : ℕ} → r ≡ Found last place
       → bare (linesAt (n + 1) more line (drop place bytes)) ≡ bare (linesAt n (suc more) line (drop at bytes))
   unfolding linesAt
-  lines-found more {last} {place} e =
-      ap (λ (m : ℕ). bare (linesAt m more line (drop place bytes))) (add-one n)
-      ∙ go (lineAt n line (drop at bytes)) (outcome-is bytes at n same r says ∙ ap (saidLine bytes) e)
-    where
-      go : (o : Outcome) → brief o ≡ went last (drop place bytes) → bare (linesAt (suc n) more line (drop place bytes)) ≡ bare (andThen o (λ rest. linesAt (suc n) more line rest))
-      go (fault a b) f = absurd (let z : _≡_ {A = ℕ} 0 1 = cc in omega arith)
-      go (found ns rest) f =
-          let r : drop place bytes ≡ rest = cc in
-          ap (λ (s : List ℕ). bare (linesAt (suc n) more line s)) r ∙ sym (bare-before ns (linesAt (suc n) more line rest))
+  lines-found more {place} e =
+      let t = told-found bytes at n same r says e in
+      rw (t .1, add-one n) (sym (bare-before (t .0) (linesAt (suc n) more line (drop place bytes))))
 
 -- round j + 1 of so many, on line j + 6
 module _ (bytes : List ℕ) (at vars degree j : ℕ) (h : j < vars) (r : Line)
-    (says : saidLine bytes r ≡ brief (lineAt (j + 6) (lineWanted (roundLine narrow degree .word) (roundWanted (j + 6) degree)) (drop at bytes))) where
+    (says : said r ≡ brief (length bytes) (lineAt (j + 6) (lineWanted Round (roundWanted (j + 6) degree)) (drop at bytes))) where
   left : vars - j ≡ suc (vars - (j + 1))
   left = omega arith
 
-  pub round-refused : {number m : ℕ} → r ≡ Refused number m → stopped number m ≡ bare (linesAt (j + 6) (vars - j) (roundLine narrow degree) (drop at bytes))
+  pub round-refused : {number m : ℕ} → r ≡ Refused number m → fault number m ≡ bare (linesAt (j + 6) (vars - j) (roundLine narrow degree) (drop at bytes))
   round-refused e = rw left (lines-refused bytes at (j + 6) (round-line (j + 6) degree) r says (vars - (j + 1)) e)
 
   pub round-found : {last place : ℕ} → r ≡ Found last place
@@ -173,6 +97,6 @@ module _ (bytes : List ℕ) (at vars degree j : ℕ) (h : j < vars) (r : Line)
       ∙ ap (λ (n : ℕ). bare (linesAt (j + 6) n (roundLine narrow degree) (drop at bytes))) (sym left))
 
 -- no round is left
-pub round-none : (s : List ℕ) (vars degree j : ℕ) → vars ≤ j → went 0 s ≡ bare (linesAt (j + 6) (vars - j) (roundLine narrow degree) s)
+pub round-none : (s : List ℕ) (vars degree j : ℕ) → vars ≤ j → found [] s ≡ bare (linesAt (j + 6) (vars - j) (roundLine narrow degree) s)
 unfolding linesAt
 round-none s vars degree j h = let e : vars - j ≡ 0 = omega arith in rw e

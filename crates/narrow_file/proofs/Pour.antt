@@ -11,7 +11,7 @@ use lib.ListN.{length, getD, take, drop, set, take-append-drop, drop-of-length-l
 use lib.Seq.{take-suc-set, drop-set-lt, drop-drop, take-nil}
 use Rattle.layout.specs.Bytes.{Class, classOf}
 use Rattle.narrow_file.specs.Passes.{stores, carried, collect, put}
-use Rattle.narrow_file.proofs.Runs.{drop-here}
+use Rattle.file_line.proofs.Runs.{drop-here}
 
 unfoldable pub pour : ℕ → ℕ → ℕ → List ℕ → List ℕ → List ℕ
 pour places filled value s list = take filled list ++ put (take (places - filled) (collect value s)) (drop filled list)

@@ -8,8 +8,14 @@ use Rattle.layout.specs.Bytes.{Class, digit, comma, equals, lineEnd, letter, ot
 use Rattle.layout.specs.Line.{Outcome, fault, found}
 use Rattle.layout.specs.Answer.{Answer, file, refused}
 use Rattle.narrow_file.specs.declared.lines.Judged.{Judged}
+use Rattle.file_line.specs.declared.line.Wanted.{Wanted}
+use Rattle.file_line.specs.declared.line.Line.{Line}
+use Rattle.file_line.specs.declared.line.Line.the-variants as line
 use Rattle.narrow_file.specs.declared.lines.Judged.the-variants.{File, Refused}
-use Rattle.narrow_file.specs.Steps.{Brief, stopped, went}
+
+-- a line with one number, from the least to the greatest that is allowed
+abbrev pub oneNumber : ℕ → ℕ → ℕ → Wanted
+oneNumber line low high = record { line = line; commas = 0; digits = 10; low = low; high = high }
 
 -- the second pass takes a number's end for the place to store it
 abbrev pub stores : Class → Bool
@@ -44,6 +50,11 @@ saidJudged bytes (Refused number line) = refused number line
 saidJudged bytes (File vars degree claim rounds) = file vars degree claim (take (vars * (degree + 1)) (collect 0 (drop rounds bytes)))
 
 -- an outcome without its numbers
-abbrev pub bare : Outcome → Brief
-bare (fault number line) = stopped number line
-bare (found ns rest) = went 0 rest
+abbrev pub bare : Outcome → Outcome
+bare (fault number line) = fault number line
+bare (found ns rest) = found [] rest
+
+-- what the reading of the rounds tells: a refusal; or where the line after them starts
+abbrev pub saidRounds : List ℕ → Line → Outcome
+saidRounds bytes (line.Refused number at) = fault number at
+saidRounds bytes (line.Found last next) = found [] (drop next bytes)

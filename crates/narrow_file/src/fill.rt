@@ -3,10 +3,10 @@ ghost use mathlib.Core.Path.{_≡_};
 ghost use Prim.Native.Nat.{_≤_};
 ghost use lib.ListN.{length, take, drop};
 ghost use Rattle.layout.specs.Bytes.{classOf, digit};
-ghost use Rattle.narrow_file.specs.Steps.{meant};
+ghost use Rattle.file_line.specs.OneLine.{meant};
 ghost use Rattle.narrow_file.specs.Passes.{stores, carried, collect, put};
-use crate::line;
-use crate::line::Class;
+use file_line::class;
+use file_line::class::Class;
 
 // Whether a byte of a class ends a number.
 fn ends_number(class: Class) -> bool
@@ -60,7 +60,7 @@ pub(crate) fn fill(bytes: &[u8], at: usize, places: usize, messages: &mut [u32])
             return;
         }
         let b = bytes[i];
-        let class = line::class_of(b);
+        let class = class::class_of(b);
         i += 1;
         if ends_number(class) {
             messages[filled] = value;

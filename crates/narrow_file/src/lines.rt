@@ -1,15 +1,17 @@
 // The first pass: every line of a file in order. It writes nothing, and takes no count of the header for what the file has.
 ghost use mathlib.Core.Path.{_≡_};
 ghost use Prim.Native.Nat.{_+_, _*_, _≤_};
-ghost use lib.ListN.{take, drop};
+ghost use lib.ListN.{length, take, drop};
 ghost use Rattle.refusals.specs.Limits.{maxVars};
+ghost use Rattle.layout.specs.Line.{lineAt};
 ghost use Rattle.layout.specs.Answer.{answer, fromEdition, fromField, fromVars, fromDegree, fromClaim, fromRounds, fromEnd, linesAt, roundLine};
+ghost use Rattle.file_line.specs.OneLine.{said, brief, lineWanted};
 ghost use Rattle.narrow_file.specs.Narrow.{narrow};
-ghost use Rattle.narrow_file.specs.Steps.{saidLine};
-ghost use Rattle.narrow_file.specs.Passes.{saidJudged, collect, bare};
-use crate::line;
-use crate::line::Line;
-use crate::line::Wanted;
+ghost use Rattle.narrow_file.specs.Passes.{oneNumber, saidJudged, collect, saidRounds, bare};
+use file_line::line;
+use file_line::line::Line;
+use file_line::line::Wanted;
+use file_line::line::Word;
 
 // What the first pass finds: a refusal; or the file's head, and where its rounds start.
 pub enum Judged {
@@ -42,6 +44,20 @@ const MOST_DEGREE: u64 = refusals::MAX_DEGREE as u64;
 // The most digits of a number.
 const DIGITS: u32 = 10;
 
+// A line with one number, from the least to the greatest that is allowed.
+fn one_number(bytes: &[u8], at: usize, word: Word, line: u32, low: u64, high: u64) -> Line
+    ensures { λ r. ⌜ said r ≡ brief (length (now (bytes .entry))) (lineAt line (lineWanted word (oneNumber line low high)) (drop at (now (bytes .entry)))) ⌝ }
+{
+    let wanted = Wanted {
+        line,
+        commas: 0,
+        digits: DIGITS,
+        low,
+        high,
+    };
+    line::line_at(bytes, at, word, wanted)
+}
+
 // The `end` line, and nothing after it.
 fn from_end(bytes: &[u8], at: usize, vars: u32, degree: u32, claim: u32, rounds: usize) -> Judged
     requires { ⌜ vars ≤ maxVars ⌝ }
@@ -49,14 +65,7 @@ fn from_end(bytes: &[u8], at: usize, vars: u32, degree: u32, claim: u32, rounds:
 {
     let end = vars + 6;
     let after = vars + 7;
-    let wanted = Wanted {
-        line: end,
-        commas: 0,
-        digits: DIGITS,
-        low: vars as u64,
-        high: vars as u64,
-    };
-    let found = line::line_at(bytes, at, b"end", wanted);
+    let found = one_number(bytes, at, Word::End, end, vars as u64, vars as u64);
     match found {
         Line::Refused { number, line } => Judged::Refused { number, line }, // nothing is written yet
         Line::Found { last: _, next } => {
@@ -80,7 +89,7 @@ fn from_end(bytes: &[u8], at: usize, vars: u32, degree: u32, claim: u32, rounds:
 // The rounds, each on a line of its own: where the line after them starts.
 fn rounds_at(bytes: &[u8], at: usize, vars: u32, degree: u32) -> Line
     requires { ⌜ vars ≤ maxVars ⌝ }
-    ensures { λ r. ⌜ saidLine (now (bytes .entry)) r ≡ bare (linesAt 6 vars (roundLine narrow degree) (drop at (now (bytes .entry)))) ⌝ }
+    ensures { λ r. ⌜ saidRounds (now (bytes .entry)) r ≡ bare (linesAt 6 vars (roundLine narrow degree) (drop at (now (bytes .entry)))) ⌝ }
 {
     let mut place = at;
     let mut j: u32 = 0;
@@ -93,7 +102,7 @@ fn rounds_at(bytes: &[u8], at: usize, vars: u32, degree: u32) -> Line
             low: 0,
             high: LAST,
         };
-        let found = line::line_at(bytes, place, b"round", wanted);
+        let found = line::line_at(bytes, place, Word::Round, wanted);
         match found {
             Line::Refused { number, line } => {
                 return Line::Refused { number, line };
@@ -127,14 +136,7 @@ fn from_claim(bytes: &[u8], at: usize, vars: u32, degree: u32) -> Judged
     requires { ⌜ vars ≤ maxVars ⌝ }
     ensures { λ r. ⌜ saidJudged (now (bytes .entry)) r ≡ fromClaim narrow vars degree (drop at (now (bytes .entry))) ⌝ }
 {
-    let wanted = Wanted {
-        line: 5,
-        commas: 0,
-        digits: DIGITS,
-        low: 0,
-        high: LAST,
-    };
-    let found = line::line_at(bytes, at, b"claim", wanted);
+    let found = one_number(bytes, at, Word::Claim, 5, 0, LAST);
     match found {
         Line::Refused { number, line } => Judged::Refused { number, line },
         Line::Found { last, next } => from_rounds(bytes, next, vars, degree, last as u32),
@@ -146,14 +148,7 @@ fn from_degree(bytes: &[u8], at: usize, vars: u32) -> Judged
     requires { ⌜ vars ≤ maxVars ⌝ }
     ensures { λ r. ⌜ saidJudged (now (bytes .entry)) r ≡ fromDegree narrow vars (drop at (now (bytes .entry))) ⌝ }
 {
-    let wanted = Wanted {
-        line: 4,
-        commas: 0,
-        digits: DIGITS,
-        low: 1,
-        high: MOST_DEGREE,
-    };
-    let found = line::line_at(bytes, at, b"degree", wanted);
+    let found = one_number(bytes, at, Word::Degree, 4, 1, MOST_DEGREE);
     match found {
         Line::Refused { number, line } => Judged::Refused { number, line },
         Line::Found { last, next } => from_claim(bytes, next, vars, last as u32),
@@ -164,14 +159,7 @@ fn from_degree(bytes: &[u8], at: usize, vars: u32) -> Judged
 fn from_vars(bytes: &[u8], at: usize) -> Judged
     ensures { λ r. ⌜ saidJudged (now (bytes .entry)) r ≡ fromVars narrow (drop at (now (bytes .entry))) ⌝ }
 {
-    let wanted = Wanted {
-        line: 3,
-        commas: 0,
-        digits: DIGITS,
-        low: 0,
-        high: MOST_VARS,
-    };
-    let found = line::line_at(bytes, at, b"vars", wanted);
+    let found = one_number(bytes, at, Word::Vars, 3, 0, MOST_VARS);
     match found {
         Line::Refused { number, line } => Judged::Refused { number, line },
         Line::Found { last, next } => from_degree(bytes, next, last as u32),
@@ -182,14 +170,7 @@ fn from_vars(bytes: &[u8], at: usize) -> Judged
 fn from_field(bytes: &[u8], at: usize) -> Judged
     ensures { λ r. ⌜ saidJudged (now (bytes .entry)) r ≡ fromField narrow (drop at (now (bytes .entry))) ⌝ }
 {
-    let wanted = Wanted {
-        line: 2,
-        commas: 0,
-        digits: DIGITS,
-        low: P,
-        high: P,
-    };
-    let found = line::line_at(bytes, at, b"field", wanted);
+    let found = one_number(bytes, at, Word::Field, 2, P, P);
     match found {
         Line::Refused { number, line } => Judged::Refused { number, line },
         Line::Found { last: _, next } => from_vars(bytes, next),
@@ -200,14 +181,7 @@ fn from_field(bytes: &[u8], at: usize) -> Judged
 fn from_edition(bytes: &[u8], at: usize) -> Judged
     ensures { λ r. ⌜ saidJudged (now (bytes .entry)) r ≡ fromEdition narrow (drop at (now (bytes .entry))) ⌝ }
 {
-    let wanted = Wanted {
-        line: 1,
-        commas: 0,
-        digits: DIGITS,
-        low: EDITION,
-        high: EDITION,
-    };
-    let found = line::line_at(bytes, at, b"sumproof", wanted);
+    let found = one_number(bytes, at, Word::Sumproof, 1, EDITION, EDITION);
     match found {
         Line::Refused { number, line } => Judged::Refused { number, line },
         Line::Found { last: _, next } => from_field(bytes, next),

@@ -1,6 +1,7 @@
 -- `narrow_file::read` meets its contract: what the first pass tells is the answer, and the second pass writes it. Assumes nothing.
 use Rattle.narrow_file.proofs.Replies.{reply-refused, reply-short, reply-file}
 use denote.Ref.{now}
+use native.Mathlib.Omega.{arith}
 use borrow.Author.Needs.{needs}
 use Rattle.narrow_file.proofs.read.Statement.{statement}
 use Rattle.narrow_file.proofs.read.Tie as tie
@@ -20,7 +21,7 @@ places-of-requires c κs = search needs
 returns : tie.Need-returns
 returns c =
     let a = c .before .before .before .before .before .before .before .before .args in
-    reply-short (now (a .bytes)) (now (a .messages)) _ (c .before .before .before .before .before .judge .ensures) (c .before .before .before .judged2 .given .1) _ (c .before .places-of .ensures) (c .if1 .taken)
+    reply-short (now (a .bytes)) (now (a .messages)) _ (c .before .before .before .before .before .judge .ensures) (c .before .before .before .judged2 .given .1) _ (c .before .places-of .ensures) (omega arith)
 
 fill-requires : tie.Need-fill-requires
 fill-requires c κs = search needs
@@ -37,7 +38,7 @@ returns-3 : tie.Need-returns-3
 returns-3 c =
     let a = c .before .before .before .before .before .before .before .before .before .before .before .before .args in
     reply-file (now (a .bytes)) (now (a .messages)) _ (c .before .before .before .before .before .before .before .before .before .judge .ensures) (c .before .before .before .before .before .before .before .judged2 .given .1) _ (c .before .before .before .before .before .places-of .ensures) _
-    (c .before .before .before .before .if1 .left) (c .before .before .fill .ensures)
+    (omega arith) (c .before .before .fill .ensures)
 
 pub read-spec : {M : Type 1} → statement M
 read-spec =

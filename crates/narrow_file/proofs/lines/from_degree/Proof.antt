@@ -1,21 +1,19 @@
 -- `narrow_file::lines::from_degree` meets its contract: a refusal is the line's, and the answer goes on from what the line has. Assumes nothing.
-use lib.ListN.{drop}
-use Rattle.narrow_file.proofs.Rounds.{last-high}
-use Rattle.narrow_file.proofs.Chain.{degreeWanted, degree-line, then-refused, then-found}
+use Rattle.file_line.specs.declared.line.Word.the-variants.{Degree}
+use Rattle.narrow_file.proofs.Chain.{degree-line}
+use Rattle.file_line.proofs.Told.{then-refused, then-found, last-high}
 use Rattle.narrow_file.specs.Narrow.{narrow}
-use Rattle.layout.specs.Answer.{fromDegree, fromClaim, degreeLine}
+use Rattle.narrow_file.specs.Passes.{oneNumber}
+use Rattle.refusals.specs.Limits.{maxDegree}
+use Rattle.layout.specs.Answer.{fromDegree, fromClaim}
 use denote.Ref.{now}
 use native.Mathlib.Omega.{arith}
-use mathlib.Core.Path.{refl, _∙_}
 use borrow.Author.Needs.{needs}
 use Rattle.narrow_file.proofs.lines.from_degree.Statement.{statement}
 use Rattle.narrow_file.proofs.lines.from_degree.Tie as tie
 
-slice-aggregate-line-at : tie.Need-slice-aggregate-line-at
-slice-aggregate-line-at c = search needs
-
-line-at-requires : tie.Need-line-at-requires
-line-at-requires c κs = (refl, omega arith)
+one-number-requires : tie.Need-one-number-requires
+one-number-requires c κs = search needs
 
 enum-known-found : tie.Need-enum-known-found
 enum-known-found c = search needs
@@ -25,7 +23,7 @@ enum-known-found-2 c = search needs
 
 cast-from-claim : tie.Need-cast-from-claim
 cast-from-claim c =
-    omega (arith, last-high (now (c .before .before .before .before .before .before .args .bytes)) (drop (c .before .before .before .before .before .before .args .at) (now (c .before .before .before .before .before .before .args .bytes))) (degreeLine narrow .word) 4 degreeWanted _ (c .before .before .before .line-at .ensures) (c .before .found2 .given .1))
+    omega (arith, last-high (now (c .before .before .before .before .before .args .bytes)) (c .before .before .before .before .before .args .at) 4 Degree (oneNumber 4 1 maxDegree) _ (c .before .before .before .one-number .ensures) (c .before .found2 .given .1))
 
 from-claim-requires : tie.Need-from-claim-requires
 from-claim-requires c κs = search needs
@@ -33,22 +31,20 @@ from-claim-requires c κs = search needs
 returns : tie.Need-returns
 unfolding fromDegree
 returns c =
-    let a = c .before .before .before .before .before .before .args in
-    then-refused (now (a .bytes)) (a .at) 4 degree-line _ (c .before .before .before .line-at .ensures) _ (c .before .found .given .1)
+    let a = c .before .before .before .before .before .args in
+    then-refused (now (a .bytes)) (a .at) 4 degree-line _ (c .before .before .before .one-number .ensures) _ (c .before .found .given .1)
 
 returns-2 : tie.Need-returns-2
 unfolding fromDegree
 returns-2 c =
-    let a = c .before .before .before .before .before .before .before .args in
-    c .from-claim .ensures
-    ∙ then-found (now (a .bytes)) (a .at) 4 degree-line _ (c .before .before .before .before .line-at .ensures) (λ last rest. fromClaim narrow (a .vars) last rest) (c .before .before .found2 .given .1)
+    let a = c .before .before .before .before .before .before .args in
+    then-found (now (a .bytes)) (a .at) 4 degree-line _ (c .before .before .before .before .one-number .ensures) (λ last rest. fromClaim narrow (a .vars) last rest) (c .before .before .found2 .given .1) (c .from-claim .ensures)
 
 pub from-degree-spec : {M : Type 1} → statement M
 from-degree-spec =
     tie.close
     (tie.spec
-    slice-aggregate-line-at
-    line-at-requires
+    one-number-requires
     enum-known-found
     enum-known-found-2
     cast-from-claim

@@ -1,19 +1,15 @@
 -- `narrow_file::lines::from_field` meets its contract: a refusal is the line's, and the answer goes on from what the line has. Assumes nothing.
-use Rattle.narrow_file.proofs.Chain.{field-line, then-refused, then-found}
+use Rattle.narrow_file.proofs.Chain.{field-line}
+use Rattle.file_line.proofs.Told.{then-refused, then-found}
 use Rattle.narrow_file.specs.Narrow.{narrow}
 use Rattle.layout.specs.Answer.{fromField, fromVars}
 use denote.Ref.{now}
-use native.Mathlib.Omega.{arith}
-use mathlib.Core.Path.{refl, _∙_}
 use borrow.Author.Needs.{needs}
 use Rattle.narrow_file.proofs.lines.from_field.Statement.{statement}
 use Rattle.narrow_file.proofs.lines.from_field.Tie as tie
 
-slice-aggregate-line-at : tie.Need-slice-aggregate-line-at
-slice-aggregate-line-at c = search needs
-
-line-at-requires : tie.Need-line-at-requires
-line-at-requires c κs = (refl, omega arith)
+one-number-requires : tie.Need-one-number-requires
+one-number-requires c κs = search needs
 
 enum-known-found : tie.Need-enum-known-found
 enum-known-found c = search needs
@@ -27,22 +23,20 @@ from-vars-requires c κs = search needs
 returns : tie.Need-returns
 unfolding fromField
 returns c =
-    let a = c .before .before .before .before .before .before .args in
-    then-refused (now (a .bytes)) (a .at) 2 field-line _ (c .before .before .before .line-at .ensures) _ (c .before .found .given .1)
+    let a = c .before .before .before .before .before .args in
+    then-refused (now (a .bytes)) (a .at) 2 field-line _ (c .before .before .before .one-number .ensures) _ (c .before .found .given .1)
 
 returns-2 : tie.Need-returns-2
 unfolding fromField
 returns-2 c =
-    let a = c .before .before .before .before .before .before .before .args in
-    c .from-vars .ensures
-    ∙ then-found (now (a .bytes)) (a .at) 2 field-line _ (c .before .before .before .before .line-at .ensures) (λ last rest. fromVars narrow rest) (c .before .before .found2 .given .1)
+    let a = c .before .before .before .before .before .before .args in
+    then-found (now (a .bytes)) (a .at) 2 field-line _ (c .before .before .before .before .one-number .ensures) (λ last rest. fromVars narrow rest) (c .before .before .found2 .given .1) (c .from-vars .ensures)
 
 pub from-field-spec : {M : Type 1} → statement M
 from-field-spec =
     tie.close
     (tie.spec
-    slice-aggregate-line-at
-    line-at-requires
+    one-number-requires
     enum-known-found
     enum-known-found-2
     from-vars-requires

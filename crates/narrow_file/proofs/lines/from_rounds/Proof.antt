@@ -1,7 +1,6 @@
 -- `narrow_file::lines::from_rounds` meets its contract: a refusal is the rounds', and the answer goes on from their end. Assumes nothing.
 use Rattle.narrow_file.proofs.Rounds.{rounds-refused, rounds-found}
 use denote.Ref.{now}
-use mathlib.Core.Path.{_∙_}
 use borrow.Author.Needs.{needs}
 use Rattle.narrow_file.proofs.lines.from_rounds.Statement.{statement}
 use Rattle.narrow_file.proofs.lines.from_rounds.Tie as tie
@@ -26,8 +25,7 @@ returns c =
 returns-2 : tie.Need-returns-2
 returns-2 c =
     let a = c .before .before .before .before .before .before .args in
-    c .from-end .ensures
-    ∙ rounds-found (now (a .bytes)) (a .at) (a .vars) (a .degree) (a .claim) _ (c .before .before .before .before .rounds-at .ensures) (c .before .before .found2 .given .1)
+    rounds-found (now (a .bytes)) (a .at) (a .vars) (a .degree) (a .claim) _ (c .before .before .before .before .rounds-at .ensures) (c .before .before .found2 .given .1) (c .from-end .ensures)
 
 pub from-rounds-spec : {M : Type 1} → statement M
 from-rounds-spec =

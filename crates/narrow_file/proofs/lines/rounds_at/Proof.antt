@@ -15,10 +15,10 @@ use Rattle.narrow_file.proofs.lines.rounds_at.Statement.{statement}
 use Rattle.narrow_file.proofs.lines.rounds_at.Tie as tie
 
 abbrev Inv-loop : tie.InvT-loop
-Inv-loop bytes at vars degree place₀ j₀ t12 place j = (j ≤ vars) × (bare (linesAt (j + 6) (vars - j) (roundLine narrow degree) (drop place bytes)) ≡ bare (linesAt 6 vars (roundLine narrow degree) (drop at bytes)))
+Inv-loop bytes at vars degree place₀ j₀ place j = (j ≤ vars) × (bare (linesAt (j + 6) (vars - j) (roundLine narrow degree) (drop place bytes)) ≡ bare (linesAt 6 vars (roundLine narrow degree) (drop at bytes)))
 
 abbrev μ-loop : tie.MeasureT-loop
-μ-loop bytes at vars degree place₀ j₀ t12 place j = vars - j
+μ-loop bytes at vars degree place₀ j₀ place j = vars - j
 
 loop-holds : tie.Need-loop-holds Inv-loop μ-loop
 loop-holds c = (omega arith, simp sub-zero)
@@ -26,20 +26,17 @@ loop-holds c = (omega arith, simp sub-zero)
 add-round : tie.Need-add-round Inv-loop μ-loop
 add-round c = omega arith
 
-slice-aggregate-line-at : tie.Need-slice-aggregate-line-at Inv-loop μ-loop
-slice-aggregate-line-at c = search needs
-
 line-at-requires : tie.Need-line-at-requires Inv-loop μ-loop
-line-at-requires c κs = (refl, omega arith)
+line-at-requires c κs = search needs
 
 enum-known-found : tie.Need-enum-known-found Inv-loop μ-loop
 enum-known-found c = search needs
 
 returns : tie.Need-returns Inv-loop μ-loop
 returns c =
-    let a = c .before .before .before .before .before .before .before .before .args in
-    let l = c .before .before .before .before .before .before .loop in
-    round-refused (now (a .bytes)) (l .place) (a .vars) (a .degree) (l .j) (c .before .before .before .before .before .loop-test .taken) _ (c .before .before .before .line-at .ensures) (c .before .found .given .1)
+    let a = c .before .before .before .before .before .before .before .args in
+    let l = c .before .before .before .before .before .loop in
+    round-refused (now (a .bytes)) (l .place) (a .vars) (a .degree) (l .j) (c .before .before .before .before .loop-test .taken) _ (c .before .before .before .line-at .ensures) (c .before .found .given .1)
     ∙ l .inv .1
 
 enum-known-found-2 : tie.Need-enum-known-found-2 Inv-loop μ-loop
@@ -53,10 +50,10 @@ loop-less c = omega arith
 
 loop-again : tie.Need-loop-again Inv-loop μ-loop
 loop-again c =
-    let a = c .before .before .before .before .before .before .before .before .args in
-    let l = c .before .before .before .before .before .before .loop in (
+    let a = c .before .before .before .before .before .before .before .args in
+    let l = c .before .before .before .before .before .loop in (
       omega arith,
-      round-found (now (a .bytes)) (l .place) (a .vars) (a .degree) (l .j) (c .before .before .before .before .before .loop-test .taken) _ (c .before .before .before .line-at .ensures) (c .before .found2 .given .1)
+      round-found (now (a .bytes)) (l .place) (a .vars) (a .degree) (l .j) (c .before .before .before .before .loop-test .taken) _ (c .before .before .before .line-at .ensures) (c .before .found2 .given .1)
           ∙ l .inv .1,
     )
 
@@ -74,7 +71,6 @@ rounds-at-spec =
     μ-loop
     loop-holds
     add-round
-    slice-aggregate-line-at
     line-at-requires
     enum-known-found
     returns
