@@ -2,7 +2,7 @@
 use mathlib.Core.Path.{_≡_}
 use mathlib.Core.List.{List, [], _∷_, _++_}
 use Prim.Native.Nat.{ℕ}
-use lib.ListN.{length, take}
+use lib.ListN.{take}
 use Rattle.layout.specs.Answer.{file, refused, answer}
 use Rattle.layout.specs.File.{fileOf}
 use Rattle.narrow_file.specs.Narrow.{narrow}

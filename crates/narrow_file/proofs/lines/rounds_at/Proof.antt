@@ -10,7 +10,7 @@ use Prim.Native.Nat.{_+_, _-_, _≤_}
 use borrow.Author.Needs.{needs}
 use denote.Ref.{now}
 use native.Mathlib.Omega.{arith}
-use mathlib.Core.Path.{_≡_, refl, _∙_}
+use mathlib.Core.Path.{_≡_, _∙_}
 use Rattle.narrow_file.proofs.lines.rounds_at.Statement.{statement}
 use Rattle.narrow_file.proofs.lines.rounds_at.Tie as tie
 
