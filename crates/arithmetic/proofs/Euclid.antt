@@ -1,12 +1,12 @@
 -- Euclid's algorithm for the inverse of a modulo a prime n: two remainders and for each the multiple of a that it is, modulo n. A step takes the
 -- remainder of the first by the second. No step meets 0, since what divides both remainders divides n. Assumes nothing.
-use mathlib.Core.Path.{_≡_, refl, sym, ap, ap₂, _∙_}
-use Prim.Native.Nat.{ℕ, zero, suc, _+_, _*_, _/_, _%_, _≤_, _<_}
-use native.Mathlib.Nat.{mod-mod, mod-lt, mod-self, mod-eq-of-lt, div-add-mod', dvd-mod-iff, dvd-of-mod-eq-zero, mod-eq-zero-of-dvd, zero-mod}
+use mathlib.Core.Path.{_≡_, sym, ap₂, _∙_}
+use Prim.Native.Nat.{ℕ, zero, suc, _+_, _*_, _/_, _%_, _<_}
+use native.Mathlib.Nat.{mod-lt, mod-self, mod-eq-of-lt, div-add-mod', dvd-mod-iff, dvd-of-mod-eq-zero, mod-eq-zero-of-dvd}
 use native.Mathlib.Omega.{arith}
 use Rattle.arithmetic.specs.Modulo.{add, mul, neg, sub}
 use Rattle.arithmetic.specs.Prime.{Prime, inverse}
-use Rattle.arithmetic.proofs.Ring.{Term, at, _⊕_, _⊗_, ⊖_, same}
+use Rattle.arithmetic.proofs.Ring.{at, _⊕_, _⊗_, ⊖_, same}
 use Rattle.arithmetic.proofs.Modulo.{mul-zero-mod, mul-one-mod, add-zero-mod}
 use Rattle.arithmetic.proofs.Field.{inverse-is}
 

@@ -9,7 +9,7 @@ use lib.Dec.{eqb}
 use borrow.Author.Tests.{eqb-true, eqb-false}
 use Rattle.arithmetic.specs.Modulo.{mul, neg}
 use Rattle.arithmetic.specs.Prime.{Prime, inverse, inverseFrom}
-use Rattle.arithmetic.proofs.Ring.{Term, at, _⊕_, _⊗_, ⊖_, same}
+use Rattle.arithmetic.proofs.Ring.{at, _⊗_, ⊖_, same}
 use Rattle.arithmetic.proofs.Modulo.{mul-one-mod, mul-zero-mod, mul-mod-left, mul-mod-right}
 
 step : (m a q r c : ℕ) → q * a + r ≡ suc m → mul (suc m) r c ≡ 1 → mul (suc m) a (neg (suc m) (mul (suc m) q c)) ≡ 1

@@ -1,5 +1,4 @@
 -- 2^31 - 1 is prime, by trial division up to 46,341, whose square is past it. Assumes nothing.
-use Prim.Native.Nat.{ℕ}
 use native.Mathlib.Omega.{arith}
 use Rattle.arithmetic.specs.Prime.{Prime}
 use Rattle.arithmetic.proofs.Trial.{undividedFrom, prime-by-trial}

@@ -1,11 +1,11 @@
 -- The laws of a commutative ring for the operations of specs/Modulo, each an instance of proofs/Ring's one law; the laws of powers;
 -- and that answers are elements. Assumes nothing.
-use mathlib.Core.Path.{_≡_, refl, sym, ap, _∙_}
+use mathlib.Core.Path.{_≡_, sym, ap, _∙_}
 use Prim.Native.Nat.{ℕ, zero, suc, _+_, _-_, _*_, _%_, _<_}
-use native.Mathlib.Nat.{mod-mod, mod-lt, mod-eq-of-lt, zero-mod, suc-add, zero-add}
+use native.Mathlib.Nat.{mod-lt, zero-mod}
 use native.Mathlib.Omega.{arith}
-use Rattle.arithmetic.specs.Modulo.{add, mul, neg, sub, pow}
-use Rattle.arithmetic.proofs.Ring.{Term, at, _⊕_, _⊗_, ⊖_, same}
+use Rattle.arithmetic.specs.Modulo.{add, mul, neg, sub}
+use Rattle.arithmetic.proofs.Ring.{at, _⊕_, _⊗_, ⊖_, same}
 
 pub add-below : (n a b : ℕ) → 0 < n → add n a b < n
 add-below n a b h = mod-lt (a + b) h

@@ -1,11 +1,11 @@
 -- The laws of powers modulo n, and the power by squaring: what is done times base^left stays the same where a digit of the exponent is taken.
 -- Assumes nothing.
-use mathlib.Core.Path.{_≡_, refl, sym, ap, ap₂, _∙_}
+use mathlib.Core.Path.{_≡_, refl, sym, ap, _∙_}
 use Prim.Native.Nat.{ℕ, zero, suc, _+_, _*_, _/_, _%_, _<_}
 use native.Mathlib.Nat.{mod-mod, mod-lt, suc-add, zero-add}
 use native.Mathlib.Omega.{arith}
-use Rattle.arithmetic.specs.Modulo.{add, mul, pow}
-use Rattle.arithmetic.proofs.Ring.{Term, at, _⊕_, _⊗_, ⊖_, same}
+use Rattle.arithmetic.specs.Modulo.{mul, pow}
+use Rattle.arithmetic.proofs.Ring.{at, _⊕_, _⊗_, same}
 use Rattle.arithmetic.proofs.Modulo.{add-zero-mod, mul-below}
 
 pub pow-below : (n a e : ℕ) → 0 < n → pow n a e < n

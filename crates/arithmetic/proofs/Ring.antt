@@ -5,7 +5,7 @@
 --   same       two terms whose exact values are equal up to multiples of n have the same value modulo n
 -- Assumes nothing.
 use mathlib.Core.Path.{_≡_, refl, sym, ap, ap₂, _∙_}
-use Prim.Native.Nat.{ℕ, zero, suc, pred, _+_, _-_, _*_, _%_, _/_, _≤_, _<_}
+use Prim.Native.Nat.{ℕ, zero, suc, pred, _+_, _-_, _*_, _%_, _/_, _<_}
 use native.Mathlib.Nat.{mod-mod, add-mod, add-mul-mod-self-right, div-add-mod', mod-lt, zero-sub, zero-mul}
 use native.Mathlib.Omega.{arith}
 use Rattle.arithmetic.specs.Modulo.{add, mul, neg}

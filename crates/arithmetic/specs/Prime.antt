@@ -1,6 +1,6 @@
 -- Primes, and the inverse of an element.
 use mathlib.Core.Path.{_≡_}
-use mathlib.Core.Bool.{Bool, true, false}
+use mathlib.Core.Bool.{true, false}
 use Prim.Native.Nat.{ℕ, zero, suc, _%_, _<_}
 use lib.Dec.{eqb}
 use Rattle.arithmetic.specs.Modulo.{mul}

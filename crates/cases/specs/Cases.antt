@@ -8,7 +8,7 @@ use Rattle.sumcheck.specs.Rounds.{truePolynomial}
 use Rattle.refusals.specs.First.{Answer, refused, given}
 use Rattle.sumcheck.specs.Lent.{join}
 use Rattle.sumcheck.specs.Entries.{checkerAnswer, roundsAnswer}
-use Rattle.sumcheck.specs.Protocol.{Rounds, reached, failed, rounds, Verdict, accepted, rejected, verdict}
+use Rattle.sumcheck.specs.Protocol.{Rounds, reached, rounds, Verdict, accepted, rejected, verdict}
 use Rattle.layout.specs.Answer as Layout
 use Rattle.layout.specs.Answer.{Layout, file, answer}
 use Rattle.narrow_file.specs.Narrow.{narrow}

@@ -6,7 +6,7 @@ use lib.Dec.{eqb}
 use Rattle.arithmetic.specs.Modulo.{add, sub, neg, mul, pow}
 use Rattle.arithmetic.specs.Prime.{inverse}
 use Rattle.refusals.specs.First as First
-use Rattle.refusals.specs.First.{Rule, _when_, outside, refused, given, decide}
+use Rattle.refusals.specs.First.{_when_, outside, refused, given, decide}
 use Rattle.narrow_field.specs.Narrow.{p}
 use Rattle.narrow_field.specs.declared.Answer.{Answer}
 use Rattle.narrow_field.specs.declared.Answer.the-variants.{Given, Refused}

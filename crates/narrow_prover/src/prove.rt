@@ -18,8 +18,8 @@ use crate::memory::clear;
 use crate::memory::copy;
 use crate::memory::put;
 use crate::round::round;
-use narrow_lent::judge;
 use narrow_lent::lengths::size;
+use narrow_lent::prover::prover_refusal;
 
 // One round: its polynomial is written to the front of its part of the message list, and the tables are folded by its challenge.
 fn write_round(
@@ -88,27 +88,17 @@ pub fn prove(
         × ((now (messages .exit) ≡ messagesAfter p vars degree (now (tables .entry)) (now (challenges .entry)) (now (messages .entry)) (now (scratch .entry)))
         × (now (scratch .exit) ≡ scratchAfter p vars degree (now (tables .entry)) (now (challenges .entry)) (now (messages .entry)) (now (scratch .entry)))) ⌝ }
 {
-    let refusal = judge::tables(vars, degree, tables.len());
-    if refusal != 0 {
-        return Proof::Refused(refusal);
+    let number = prover_refusal(vars, degree, tables, challenges, messages, scratch);
+    if number != 0 {
+        return Proof::Refused(number);
     }
-    if challenges.len() != vars as usize {
-        return Proof::Refused(3);
-    }
-    let count = degree as usize;
-    if messages.len() < challenges.len() * (count + 1) {
-        return Proof::Refused(4);
-    }
-    if scratch.len() < tables.len() {
-        return Proof::Refused(4);
-    }
-    let places = size(vars);
-    if judge::tables_outside(tables, count, places) {
-        return Proof::Refused(5);
-    }
-    if judge::is_outside(challenges) {
-        return Proof::Refused(5);
-    }
-    run(tables, count, places, challenges, messages, scratch);
+    run(
+        tables,
+        degree as usize,
+        size(vars),
+        challenges,
+        messages,
+        scratch,
+    );
     Proof::Done
 }

@@ -1,14 +1,14 @@
 -- Lists of which something holds at every member, and the sum of a list modulo n. Assumes nothing.
 use mathlib.Core.Path.{_≡_, refl, sym, ap, ap₂, _∙_}
 use mathlib.Core.List.{List, [], _∷_, _++_, map}
-use Prim.Native.Nat.{ℕ, zero, suc, _+_, _*_, _%_, _≤_, _<_}
-use native.Mathlib.Nat.{mod-lt, mod-mod, zero-mod}
+use Prim.Native.Nat.{ℕ, zero, suc, _+_, _%_}
+use native.Mathlib.Nat.{mod-mod, zero-mod}
 use native.Mathlib.Omega.{arith}
 use lib.ListN.{take, drop}
 use Rattle.arithmetic.specs.Modulo.{add, mul}
-use Rattle.arithmetic.proofs.Ring.{Term, at, _⊕_, _⊗_, ⊖_, same}
+use Rattle.arithmetic.proofs.Ring.{at, _⊕_, _⊗_, same}
 use Rattle.arithmetic.proofs.Modulo.{zero-add-mod, mul-zero-mod}
-use Rattle.polynomial.specs.Elements.{Every, sum, product}
+use Rattle.polynomial.specs.Elements.{Every, sum}
 
 -- what holds of everything holds of every member
 pub every : {A : Type 0} (P : A → Type 0) → ((x : A) → P x) → (xs : List A) → Every P xs

@@ -1,12 +1,12 @@
 -- Polynomials in a list of fixed length, with zeros on top: the product with a line, and sums. Assumes nothing.
 use mathlib.Core.Path.{_≡_, refl, sym, ap, ap₂, _∙_}
-use mathlib.Core.List.{List, [], _∷_, _++_, map}
-use Prim.Native.Nat.{ℕ, zero, suc, _+_, _*_, _%_, _≤_, _<_}
+use mathlib.Core.List.{List, [], _∷_, _++_}
+use Prim.Native.Nat.{ℕ, zero, suc, _+_, _<_}
 use native.Mathlib.Nat.{mod-eq-of-lt, zero-mod}
 use native.Mathlib.Omega.{arith}
 use lib.ListN.{length, replicate, length-replicate}
 use Rattle.arithmetic.specs.Modulo.{add, mul}
-use Rattle.arithmetic.proofs.Ring.{at, _⊕_, _⊗_, ⊖_, same}
+use Rattle.arithmetic.proofs.Ring.{at, _⊕_, _⊗_, same}
 use Rattle.arithmetic.proofs.Modulo.{add-zero-mod, zero-add-mod, mul-zero-mod}
 use Rattle.polynomial.specs.Elements.{Every, Elements}
 use Rattle.polynomial.specs.Polynomial.{plus, scale, times, plusAll}

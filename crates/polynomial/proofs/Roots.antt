@@ -3,14 +3,14 @@
 -- So a list with as many distinct roots as it has coefficients has no coefficient but 0, and that of the difference of two lists makes them
 -- equal. Assumes nothing.
 use mathlib.Core.Path.{_≡_, refl, sym, ap, ap₂, _∙_}
-use mathlib.Core.List.{List, [], _∷_, map}
+use mathlib.Core.List.{List, [], _∷_}
 use Prim.Native.Nat.{ℕ, zero, suc, _+_, _*_, _%_, _≤_, _<_}
 use native.Mathlib.Nat.{mod-eq-of-lt, mod-mod, zero-mod, lt-of-not-le}
 use native.Mathlib.Omega.{arith}
 use lib.ListN.{length, length-map}
 use Rattle.arithmetic.specs.Modulo.{add, mul, neg, sub}
 use Rattle.arithmetic.specs.Prime.{Prime}
-use Rattle.arithmetic.proofs.Ring.{Term, at, _⊕_, _⊗_, ⊖_, same}
+use Rattle.arithmetic.proofs.Ring.{at, _⊕_, _⊗_, ⊖_, same}
 use Rattle.arithmetic.proofs.Modulo.{zero-add-mod, sub-add}
 use Rattle.arithmetic.proofs.Field.{product-zero}
 use Rattle.polynomial.specs.Elements.{Every, Elements, Distinct}

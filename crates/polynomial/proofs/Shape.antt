@@ -1,12 +1,12 @@
 -- How many coefficients sums and products have, and that they are elements. Assumes nothing.
-use mathlib.Core.Path.{_≡_, refl, sym, ap, ap₂, _∙_}
-use mathlib.Core.List.{List, [], _∷_, map}
-use Prim.Native.Nat.{ℕ, zero, suc, _+_, _*_, _%_, _<_, max}
+use mathlib.Core.Path.{_≡_, refl, sym, ap, _∙_}
+use mathlib.Core.List.{List, [], _∷_}
+use Prim.Native.Nat.{ℕ, suc, _+_, _*_, _<_, max}
 use native.Mathlib.Nat.{mod-lt, zero-max, max-zero, suc-max-suc}
 use native.Mathlib.Omega.{arith}
 use lib.ListN.{length, length-map}
-use Rattle.arithmetic.specs.Modulo.{add, mul}
-use Rattle.polynomial.specs.Elements.{Every, Elements, sum, product}
+use Rattle.arithmetic.specs.Modulo.{mul}
+use Rattle.polynomial.specs.Elements.{Every, Elements}
 use Rattle.polynomial.specs.Polynomial.{plus, scale, times, plusAll, timesAll}
 
 pub length-plus : (n : ℕ) (p q : List ℕ) → length (plus n p q) ≡ max (length p) (length q)

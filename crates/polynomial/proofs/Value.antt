@@ -1,11 +1,11 @@
 -- The value of a polynomial: Horner's rule, and the values of a sum and of a product. Each step is an identity modulo n. Assumes nothing.
 use mathlib.Core.Path.{_≡_, refl, sym, ap, ap₂, _∙_}
 use mathlib.Core.List.{List, [], _∷_, map}
-use Prim.Native.Nat.{ℕ, zero, suc, _+_, _*_, _%_}
+use Prim.Native.Nat.{ℕ, suc, _+_, _%_}
 use native.Mathlib.Nat.{mod-mod, zero-mod}
 use native.Mathlib.Omega.{arith}
 use Rattle.arithmetic.specs.Modulo.{add, mul, pow}
-use Rattle.arithmetic.proofs.Ring.{Term, at, _⊕_, _⊗_, ⊖_, same}
+use Rattle.arithmetic.proofs.Ring.{at, _⊕_, _⊗_, same}
 use Rattle.arithmetic.proofs.Modulo.{add-zero-mod, zero-add-mod, mul-comm, mul-zero-mod}
 use Rattle.polynomial.specs.Elements.{sum, product}
 use Rattle.polynomial.specs.Polynomial.{valueFrom, value, plus, scale, times, plusAll, timesAll}

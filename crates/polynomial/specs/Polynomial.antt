@@ -1,7 +1,7 @@
 -- A polynomial is a list of coefficients, lowest power first; high ones may be 0 (document 01, "Terms"). Its value at x is the sum of
 -- coefficient times power of x.
 use mathlib.Core.List.{List, [], _∷_, map}
-use Prim.Native.Nat.{ℕ, zero, suc, _%_}
+use Prim.Native.Nat.{ℕ, suc, _%_}
 use Rattle.arithmetic.specs.Modulo.{add, mul, pow}
 
 -- the sum of c·x^i, c·x^(i+1), .. for the coefficients from the power i on

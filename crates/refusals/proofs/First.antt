@@ -5,7 +5,7 @@ use mathlib.Core.List.{List, [], _∷_, _++_}
 use Prim.Native.Nat.{ℕ, _≤_, _<_}
 use lib.Dec.{leb}
 use borrow.Author.Tests.{le-leb, lt-leb}
-use Rattle.refusals.specs.First.{Rule, _when_, Answer, refused, given, choose, either, outside, first, decide}
+use Rattle.refusals.specs.First.{Rule, _when_, refused, choose, either, outside, first, decide}
 
 pub choose-true : {A : Type 0} {b : Bool} (x y : A) → b ≡ true → choose b x y ≡ x
 choose-true {A} x y e = ap (λ (b : Bool). choose b x y) e
@@ -91,14 +91,3 @@ outside-append n (x ∷ xs) ys = go (leb n x) (outside-append n xs ys)
     go : (b : Bool) → outside n (xs ++ ys) ≡ either (outside n xs) (outside n ys) → either b (outside n (xs ++ ys)) ≡ either (either b (outside n xs)) (outside n ys)
     go true e = refl
     go false e = e
-
--- an answer and its number
-pub first-refused : {A : Type 0} (rules : List Rule) (a : A) (k : ℕ) → decide rules a ≡ refused k → first rules ≡ k
-first-refused [] a k e = cc
-first-refused ((number when true) ∷ rules) a k e = cc
-first-refused ((number when false) ∷ rules) a k e = first-refused rules a k e
-
-pub first-given : {A : Type 0} (rules : List Rule) (a b : A) → decide rules a ≡ given b → first rules ≡ 0
-first-given [] a b e = refl
-first-given ((number when true) ∷ rules) a b e = cc
-first-given ((number when false) ∷ rules) a b e = first-given rules a b e

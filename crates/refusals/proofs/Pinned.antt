@@ -1,5 +1,5 @@
 -- A promise that is an equation has one answer. Assumes nothing.
-use mathlib.Core.Path.{_≡_, sym, _∙_}
+use mathlib.Core.Path.{sym, _∙_}
 use Rattle.refusals.specs.Pinned.{Pins, OneAnswer}
 
 pub one-answer : OneAnswer

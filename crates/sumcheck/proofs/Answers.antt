@@ -3,19 +3,18 @@
 use mathlib.Core.Path.{_≡_, refl, sym, ap, _∙_}
 use mathlib.Core.Bool.{Bool, true, false, not}
 use mathlib.Core.List.{List, [], _∷_, _++_}
-use Prim.Native.Nat.{ℕ, zero, suc, _+_, _*_, _^_, _≤_, _<_, min}
+use Prim.Native.Nat.{ℕ, _*_, _^_, _≤_, _<_, min}
 use native.Mathlib.Nat.{min-eq-left}
 use native.Mathlib.Omega.{arith}
 use lib.Dec.{eqb, ltb}
-use lib.ListN.{length, drop, replicate}
-use borrow.Author.Tests.{eqb-true, eqb-false, ltb-false, eq-eqb, ne-eqb, lt-ltb, le-ltb}
+use lib.ListN.{length}
+use borrow.Author.Tests.{eqb-true, eqb-false, ltb-false, eq-eqb, ne-eqb}
 use Rattle.refusals.specs.Limits.{maxVars, maxDegree}
 use Rattle.refusals.specs.First.{Rule, _when_, Answer, refused, given, choose, either, outside, first, decide}
-use Rattle.refusals.proofs.First.{decide-first, decide-rest, decide-either, turned, passed, numbered, unnumbered, outside-append, Numbers, first-first, first-rest, first-either, first-refused, first-given, choose-true, choose-false}
+use Rattle.refusals.proofs.First.{decide-first, decide-rest, decide-either, turned, passed, numbered, unnumbered, outside-append, Numbers, first-first, first-rest, first-either, choose-true, choose-false}
 use Rattle.sumcheck.specs.Function.{f, trueSum}
-use Rattle.sumcheck.specs.Rounds.{truePolynomials}
-use Rattle.sumcheck.specs.Lent.{join, tablesLength, messagesLength, tablesOf, badVars, badDegree, notLong, tooShort}
-use Rattle.sumcheck.specs.Entries.{lengthsRefusal, valueOrZero, valueAnswer, sumAnswer, proverRules, proverAnswer, messagesAfter, scratchAfter}
+use Rattle.sumcheck.specs.Lent.{tablesLength, tablesOf, badVars, badDegree, notLong}
+use Rattle.sumcheck.specs.Entries.{lengthsRefusal, valueOrZero, valueAnswer, sumAnswer}
 
 -- refusals 1, 2, and 3 for the tables, by their length
 abbrev pub tablesRules : ℕ → ℕ → ℕ → List Rule
@@ -191,95 +190,3 @@ module _ (n vars degree : ℕ) (tables : List ℕ) where
 
   pub sum-given : first start ≡ 0 → outside n tables ≡ false → given (trueSum n (tablesOf vars degree tables) vars) ≡ sumAnswer n vars degree tables
   sum-given z h = passed 5 [] total h ∙ sym (decide-rest start (5 when outside n tables ∷ []) total (tables-numbers vars degree (length tables)) z)
-
--- the ways through the prover
-module _ (n vars degree : ℕ) (tables challenges messages scratch : List ℕ) where
-  abbrev shortRules : List Rule
-  shortRules = 4 when tooShort (messagesLength vars degree) messages ∷ 4 when tooShort (tablesLength vars degree) scratch ∷ 5 when outside n tables ∷ 5 when outside n challenges ∷ []
-
-  abbrev afterTables : List Rule
-  afterTables = 3 when notLong vars challenges ∷ shortRules
-
-  abbrev answer : Answer (Unit {0})
-  answer = proverAnswer n vars degree tables challenges messages scratch
-
-  prover-rules : decide (tablesRules vars degree (length tables) ++ afterTables) tt ≡ answer
-  prover-rules =
-      ap (λ (r : Answer (Unit {0})). choose (badVars vars) (refused 1) (choose (badDegree degree) (refused 2) r))
-      (sym (decide-either 3 a b shortRules tt)
-      ∙ ap (λ (r : Answer (Unit {0})). choose (either a b) (refused 3) r)
-      (sym (decide-either 4 c d (5 when outside n tables ∷ 5 when outside n challenges ∷ []) tt)
-      ∙ ap (λ (r : Answer (Unit {0})). choose (either c d) (refused 4) r)
-      (sym (decide-either 5 (outside n tables) (outside n challenges) [] tt) ∙ ap (λ (o : Bool). decide (5 when o ∷ []) tt) (sym (outside-append n tables challenges)))))
-    where
-      a : Bool
-      a = notLong (tablesLength vars degree) tables
-
-      b : Bool
-      b = notLong vars challenges
-
-      c : Bool
-      c = tooShort (messagesLength vars degree) messages
-
-      d : Bool
-      d = tooShort (tablesLength vars degree) scratch
-
-  pub prover-tables : (first (tablesRules vars degree (length tables)) ≡ 0 → ⊥) → refused (first (tablesRules vars degree (length tables))) ≡ answer
-  prover-tables h = sym (decide-first (tablesRules vars degree (length tables)) afterTables tt h) ∙ prover-rules
-
-  module _ (z : first (tablesRules vars degree (length tables)) ≡ 0) where
-    past-tables : decide afterTables tt ≡ answer
-    past-tables = sym (decide-rest (tablesRules vars degree (length tables)) afterTables tt (tables-numbers vars degree (length tables)) z) ∙ prover-rules
-
-    pub prover-long : (length challenges ≡ vars → ⊥) → refused 3 ≡ answer
-    prover-long h = turned 3 shortRules tt (ap not (ne-eqb (length challenges) vars h)) ∙ past-tables
-
-    module _ (l : length challenges ≡ vars) where
-      past-long : decide shortRules tt ≡ answer
-      past-long = passed 3 shortRules tt (ap not (eq-eqb (length challenges) vars l)) ∙ past-tables
-
-      pub prover-messages : length messages < messagesLength vars degree → refused 4 ≡ answer
-      prover-messages h = turned 4 (4 when tooShort (tablesLength vars degree) scratch ∷ 5 when outside n tables ∷ 5 when outside n challenges ∷ []) tt (lt-ltb (length messages) (messagesLength vars degree) h) ∙ past-long
-
-      module _ (r : messagesLength vars degree ≤ length messages) where
-        past-messages : decide (4 when tooShort (tablesLength vars degree) scratch ∷ 5 when outside n tables ∷ 5 when outside n challenges ∷ []) tt ≡ answer
-        past-messages = passed 4 (4 when tooShort (tablesLength vars degree) scratch ∷ 5 when outside n tables ∷ 5 when outside n challenges ∷ []) tt (le-ltb (length messages) (messagesLength vars degree) r) ∙ past-long
-
-        pub prover-scratch : length scratch < length tables → refused 4 ≡ answer
-        prover-scratch h = turned 4 (5 when outside n tables ∷ 5 when outside n challenges ∷ []) tt (lt-ltb (length scratch) (tablesLength vars degree) (omega (arith, tables-right vars degree (length tables) z))) ∙ past-messages
-
-        module _ (t : length tables ≤ length scratch) where
-          past-scratch : decide (5 when outside n tables ∷ 5 when outside n challenges ∷ []) tt ≡ answer
-          past-scratch = passed 4 (5 when outside n tables ∷ 5 when outside n challenges ∷ []) tt (le-ltb (length scratch) (tablesLength vars degree) (omega (arith, tables-right vars degree (length tables) z))) ∙ past-messages
-
-          pub prover-outside : outside n tables ≡ true → refused 5 ≡ answer
-          prover-outside h = turned 5 (5 when outside n challenges ∷ []) tt h ∙ past-scratch
-
-          pub prover-challenges : outside n tables ≡ false → outside n challenges ≡ true → refused 5 ≡ answer
-          prover-challenges g h = turned 5 [] tt h ∙ (passed 5 (5 when outside n challenges ∷ []) tt g ∙ past-scratch)
-
-          pub prover-done : outside n tables ≡ false → outside n challenges ≡ false → given tt ≡ answer
-          prover-done g h = passed 5 [] tt h ∙ (passed 5 (5 when outside n challenges ∷ []) tt g ∙ past-scratch)
-
-  -- a refused prover leaves what was lent
-  pub prover-kept : (k : ℕ) → (k ≡ 0 → ⊥) → refused k ≡ answer
-      → (messages ≡ messagesAfter n vars degree tables challenges messages scratch) × (scratch ≡ scratchAfter n vars degree tables challenges messages scratch)
-  prover-kept k h e = (
-    sym (choose-false (join (truePolynomials n (tablesOf vars degree tables) challenges) ++ drop (messagesLength vars degree) messages) messages no),
-    sym (choose-false (replicate (tablesLength vars degree) 0 ++ drop (tablesLength vars degree) scratch) scratch no),
-  )
-    where
-      no : eqb (first (proverRules n vars degree tables challenges messages scratch)) 0 ≡ false
-      no = ne-eqb (first (proverRules n vars degree tables challenges messages scratch)) 0 (λ (z : first (proverRules n vars degree tables challenges messages scratch) ≡ 0). h (sym (first-refused (proverRules n vars degree tables challenges messages scratch) tt k (sym e)) ∙ z))
-
-  -- one that is not refused leaves the true polynomials and cleared scratch
-  pub prover-left : given tt ≡ answer
-      → (join (truePolynomials n (tablesOf vars degree tables) challenges) ++ drop (messagesLength vars degree) messages ≡ messagesAfter n vars degree tables challenges messages scratch)
-      × (replicate (tablesLength vars degree) 0 ++ drop (tablesLength vars degree) scratch ≡ scratchAfter n vars degree tables challenges messages scratch)
-  prover-left e = (
-    sym (choose-true (join (truePolynomials n (tablesOf vars degree tables) challenges) ++ drop (messagesLength vars degree) messages) messages yes′),
-    sym (choose-true (replicate (tablesLength vars degree) 0 ++ drop (tablesLength vars degree) scratch) scratch yes′),
-  )
-    where
-      yes′ : eqb (first (proverRules n vars degree tables challenges messages scratch)) 0 ≡ true
-      yes′ = eq-eqb (first (proverRules n vars degree tables challenges messages scratch)) 0 (first-given (proverRules n vars degree tables challenges messages scratch) tt tt (sym e))

@@ -1,21 +1,19 @@
 -- A true claim is accepted (specs/Demands, Complete): with the true polynomials every sum fits the running claim, which stays the true claim of
 -- what is left, and the last one is f at the challenges. Assumes nothing.
-use mathlib.Core.Path.{_≡_, refl, sym, ap, ap₂, _∙_}
-use mathlib.Core.Bool.{true, false}
+use mathlib.Core.Path.{_≡_, refl, sym, ap, _∙_}
 use mathlib.Core.List.{List, [], _∷_, _++_, map, append-assoc, append-nil}
 use Prim.Native.Nat.{ℕ, suc, _<_}
-use lib.Dec.{eqb}
 use lib.ListN.{length}
 use borrow.Author.Tests.{eq-eqb}
-use Rattle.arithmetic.specs.Modulo.{add, mul}
+use Rattle.arithmetic.specs.Modulo.{add}
 use Rattle.arithmetic.proofs.Modulo.{add-zero-mod}
 use Rattle.polynomial.specs.Polynomial.{value}
 use Rattle.refusals.specs.First.{choose}
 use Rattle.sumcheck.specs.Corners.{corners}
 use Rattle.sumcheck.specs.Extension.{extension}
-use Rattle.sumcheck.specs.Function.{f, trueSum, trueClaim}
-use Rattle.sumcheck.specs.Rounds.{truePolynomial, polynomialsAfter, truePolynomials}
-use Rattle.sumcheck.specs.Protocol.{Rounds, reached, failed, roundsFrom, accepted, rejected, final, fits, verdict}
+use Rattle.sumcheck.specs.Function.{f, trueClaim}
+use Rattle.sumcheck.specs.Rounds.{truePolynomial, polynomialsAfter}
+use Rattle.sumcheck.specs.Protocol.{Rounds, reached, failed, roundsFrom, final, fits}
 use Rattle.sumcheck.specs.Demands.{Complete}
 use Rattle.sumcheck.proofs.Parts.{product-reduced}
 use Rattle.sumcheck.proofs.Rounds.{polynomial-claim, polynomial-sum}

@@ -1,13 +1,13 @@
 -- An extension has degree at most 1 in each variable: its value at x is the point at x on the line through its values at 0 and 1
 -- (document 002, "Multilinear Polynomials"). A weight has it, a multiple of what has it, and a sum. Assumes nothing.
-use mathlib.Core.Path.{_≡_, refl, sym, ap, ap₂, _∙_}
+use mathlib.Core.Path.{_≡_, sym, ap, ap₂, _∙_}
 use mathlib.Core.List.{List, [], _∷_, _++_, map}
-use Prim.Native.Nat.{ℕ, zero, suc, _+_, _*_, _%_, _≤_, _<_}
+use Prim.Native.Nat.{ℕ, zero, suc, _+_, _*_, _%_, _<_}
 use native.Mathlib.Nat.{zero-mod, mod-mod}
 use native.Mathlib.Omega.{arith}
 use lib.ListN.{length, length-append, getD}
-use Rattle.arithmetic.specs.Modulo.{add, mul, neg, sub}
-use Rattle.arithmetic.proofs.Ring.{Term, at, _⊕_, _⊗_, ⊖_, same}
+use Rattle.arithmetic.specs.Modulo.{add, mul, sub}
+use Rattle.arithmetic.proofs.Ring.{at, _⊕_, _⊗_, ⊖_, same}
 use Rattle.arithmetic.proofs.Modulo.{mul-comm}
 use Rattle.polynomial.specs.Elements.{Every, sum}
 use Rattle.polynomial.specs.Polynomial.{value}

@@ -1,19 +1,16 @@
 -- The folding of tables that lie one after the other in one list, each in its lower half: the fronts of the parts are the folded fronts.
 -- Assumes nothing.
-use mathlib.Core.Path.{_≡_, refl, sym, ap, ap₂, _∙_}
+use mathlib.Core.Path.{_≡_, sym, ap, ap₂, _∙_}
 use mathlib.Core.List.{List, [], _∷_, _++_, map}
-use Prim.Native.Nat.{ℕ, zero, suc, _+_, _-_, _*_, _^_, _≤_, _<_}
+use Prim.Native.Nat.{ℕ, suc, _+_, _-_, _^_, _≤_, _<_}
 use native.Mathlib.Nat.{two-pow-succ}
 use native.Mathlib.Omega.{arith}
-use lib.ListN.{length, take, drop, getD, length-append, length-drop, length-map, length-take}
+use lib.ListN.{length, take, drop, getD, length-append, length-drop, length-map}
 use lib.Seq.{take-at, getD-take}
-use Rattle.polynomial.specs.Elements.{Every}
-use Rattle.polynomial.proofs.Lists.{every, every-map, every-of-map, map-same, map-twice}
+use Rattle.polynomial.proofs.Lists.{every, map-same, map-twice}
 use Rattle.sumcheck.specs.Folding.{countFrom, between, fold}
-use Rattle.sumcheck.specs.Lent.{parts}
 use Rattle.sumcheck.proofs.Corners.{count-length, count-every}
 use Rattle.sumcheck.proofs.Folded.{folded, folded-more}
-use Rattle.sumcheck.proofs.Laid.{laid, parts-join, parts-lengths, parts-count}
 use Rattle.sumcheck.proofs.RoundFolded.{lineAt, termAt, roundOf}
 
 -- a part whose lower half is folded

@@ -1,14 +1,14 @@
 -- Binding the first variable of an extension to r gives the extension of the table folded by r; and at a corner an extension is the table's
 -- value. The corners whose first bit is 0 meet the lower half of the table with weight 1 - r, those whose first bit is 1 the upper half with
 -- weight r, and the two add up to the point between. Assumes nothing.
-use mathlib.Core.Path.{_≡_, refl, sym, ap, ap₂, _∙_}
-use mathlib.Core.List.{List, [], _∷_, _++_, map}
-use Prim.Native.Nat.{ℕ, zero, suc, _+_, _*_, _^_, _%_, _≤_, _<_}
+use mathlib.Core.Path.{_≡_, sym, ap, ap₂, _∙_}
+use mathlib.Core.List.{List, [], _∷_, map}
+use Prim.Native.Nat.{ℕ, zero, suc, _+_, _*_, _^_, _%_, _<_}
 use native.Mathlib.Nat.{mod-mod, add-zero, zero-add, add-suc, suc-add}
 use native.Mathlib.Omega.{arith}
 use lib.ListN.{length, getD}
-use Rattle.arithmetic.specs.Modulo.{add, mul, neg, sub}
-use Rattle.arithmetic.proofs.Ring.{Term, at, _⊕_, _⊗_, ⊖_, same}
+use Rattle.arithmetic.specs.Modulo.{add, mul, sub}
+use Rattle.arithmetic.proofs.Ring.{at, _⊕_, _⊗_, ⊖_, same}
 use Rattle.arithmetic.proofs.Modulo.{add-zero-mod}
 use Rattle.polynomial.specs.Elements.{Every, sum}
 use Rattle.polynomial.proofs.Lists.{every-map, map-same, map-twice, map-append, sum-append, sum-add}

@@ -1,16 +1,16 @@
 -- An extension by halves of its table, and sums and products over tables by the places of a lent list. Assumes nothing.
 use mathlib.Core.Path.{_≡_, refl, sym, ap, ap₂, _∙_}
-use mathlib.Core.List.{List, [], _∷_, _++_, map}
-use Prim.Native.Nat.{ℕ, zero, suc, _+_, _-_, _*_, _^_, _/_, _%_, _≤_, _<_}
+use mathlib.Core.List.{List, [], _∷_, map}
+use Prim.Native.Nat.{ℕ, zero, suc, _+_, _-_, _^_, _/_, _%_, _<_}
 use native.Mathlib.Nat.{sub-zero, two-pow-succ}
 use native.Mathlib.Numerals.{add-one}
 use native.Mathlib.Omega.{arith}
 use lib.ListN.{length, getD, take, drop, length-take, length-drop}
 use lib.Seq.{getD-take, getD-drop, take-all}
-use Rattle.arithmetic.specs.Modulo.{add, mul, sub}
+use Rattle.arithmetic.specs.Modulo.{mul}
 use Rattle.arithmetic.proofs.Modulo.{mul-mod-left}
 use Rattle.polynomial.specs.Elements.{Every, sum, product}
-use Rattle.polynomial.proofs.Lists.{every, every-map, map-same, map-twice}
+use Rattle.polynomial.proofs.Lists.{every-map, map-same, map-twice}
 use Rattle.sumcheck.specs.Corners.{corners, index}
 use Rattle.sumcheck.specs.Extension.{weight, extension}
 use Rattle.sumcheck.specs.Function.{f, trueSum}

@@ -16,6 +16,7 @@
 --   Walk          the rounds taken one by one from a lent message list
 --   Unrefused     what a call knows that was not refused
 --   Entries       what the checker knows of what was lent to it
+--   Prover        the prover's refusals, one test at a time, and what it knows of what was lent to it
 --   Part          where the round part lies, and that it is the message that is judged
 --   Steps         the paths of opening, a step and closing
 --   Course        every sum agrees, or there is a first that fails
@@ -47,6 +48,7 @@ pub mod Walk
 pub mod Unrefused
 pub mod Part
 pub mod Entries
+pub mod Prover
 pub mod Steps
 pub mod Course
 pub mod Messages

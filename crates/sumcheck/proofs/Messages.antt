@@ -3,7 +3,7 @@
 use mathlib.Core.Path.{_≡_, refl, ap, _∙_}
 use mathlib.Core.List.{List, [], _∷_, _++_}
 use Prim.Native.Nat.{ℕ, zero, suc, _<_}
-use lib.ListN.{length, take, drop}
+use lib.ListN.{length, drop}
 use Rattle.polynomial.specs.Elements.{Every, Elements}
 use Rattle.polynomial.proofs.Lists.{every-append, every-take, every-drop}
 use Rattle.sumcheck.specs.Rounds.{polynomialsAfter}

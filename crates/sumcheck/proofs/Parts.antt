@@ -1,13 +1,13 @@
 -- A lent list as parts of one size (specs/Lent, parts): a product over the parts as a loop takes it, one part after the other. Assumes nothing.
 use mathlib.Core.Path.{_≡_, refl, sym, ap, ap₂, _∙_}
-use mathlib.Core.List.{List, [], _∷_, _++_, map}
+use mathlib.Core.List.{List, [], _∷_, map}
 use Prim.Native.Nat.{ℕ, zero, suc, _+_, _-_, _*_, _%_, _≤_, _<_}
 use native.Mathlib.Nat.{mod-mod, mod-eq-of-lt, sub-zero, suc-sub-suc, add-sub-cancel-left}
 use native.Mathlib.Omega.{arith}
 use lib.ListN.{length, take, drop, length-take, length-drop}
 use lib.Seq.{drop-drop}
 use Rattle.arithmetic.specs.Modulo.{mul}
-use Rattle.arithmetic.proofs.Ring.{at, _⊕_, _⊗_, ⊖_, same}
+use Rattle.arithmetic.proofs.Ring.{at, _⊕_, _⊗_, same}
 use Rattle.arithmetic.proofs.Modulo.{add-zero-mod}
 use Rattle.polynomial.specs.Elements.{product}
 use Rattle.sumcheck.specs.Lent.{parts}

@@ -2,14 +2,13 @@
 -- upper half, and the sum of those products. Assumes nothing.
 use mathlib.Core.Path.{_≡_, refl, sym, ap, ap₂, _∙_}
 use mathlib.Core.List.{List, [], _∷_, _++_, map}
-use Prim.Native.Nat.{ℕ, zero, suc, _+_, _*_, _^_, _%_, _<_}
+use Prim.Native.Nat.{ℕ, suc, _+_, _*_, _^_, _%_, _<_}
 use native.Mathlib.Omega.{arith}
 use lib.ListN.{length, getD}
-use Rattle.arithmetic.specs.Modulo.{add, mul, neg, sub}
-use Rattle.arithmetic.proofs.Ring.{at, _⊕_, _⊗_, ⊖_, same}
+use Rattle.arithmetic.specs.Modulo.{mul, sub}
+use Rattle.arithmetic.proofs.Ring.{at, _⊕_, ⊖_, same}
 use Rattle.arithmetic.proofs.Modulo.{mul-mod-left, add-zero-mod}
-use Rattle.polynomial.specs.Elements.{Every}
-use Rattle.polynomial.specs.Polynomial.{plus, scale, times, plusAll, timesAll}
+use Rattle.polynomial.specs.Polynomial.{plus, times, plusAll, timesAll}
 use Rattle.polynomial.proofs.Lists.{every, every-map, map-same, map-twice}
 use Rattle.sumcheck.specs.Corners.{corners, index}
 use Rattle.sumcheck.specs.Extension.{extension}

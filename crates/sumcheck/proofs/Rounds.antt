@@ -3,21 +3,20 @@
 -- Assumes nothing.
 use mathlib.Core.Path.{_≡_, refl, sym, ap, ap₂, _∙_}
 use mathlib.Core.List.{List, [], _∷_, _++_, map, append-assoc}
-use Prim.Native.Nat.{ℕ, zero, suc, _+_, _*_, _%_, _≤_, _<_}
-use native.Mathlib.Nat.{mod-lt}
+use Prim.Native.Nat.{ℕ, suc, _+_, _≤_, _<_}
 use native.Mathlib.Omega.{arith}
 use lib.ListN.{length, length-map}
-use Rattle.arithmetic.specs.Modulo.{add, mul, sub}
+use Rattle.arithmetic.specs.Modulo.{add}
 use Rattle.arithmetic.specs.Prime.{Prime}
-use Rattle.polynomial.specs.Elements.{Every, Elements, Distinct, sum, product}
-use Rattle.polynomial.specs.Polynomial.{value, plusAll, timesAll}
-use Rattle.polynomial.proofs.Lists.{every, every-map, every-of-map, map-same, map-twice, map-append, sum-append}
+use Rattle.polynomial.specs.Elements.{Elements, sum, product}
+use Rattle.polynomial.specs.Polynomial.{value, timesAll}
+use Rattle.polynomial.proofs.Lists.{every, every-of-map, map-same, map-twice, map-append, sum-append}
 use Rattle.polynomial.proofs.Value.{value-plus-all, value-times-all}
 use Rattle.polynomial.proofs.Shape.{length-times-all, length-plus-all, elements-times-all, elements-plus-all}
 use Rattle.polynomial.proofs.Roots.{agree-equal}
 use Rattle.sumcheck.specs.Corners.{corners}
 use Rattle.sumcheck.specs.Extension.{extension}
-use Rattle.sumcheck.specs.Function.{f, trueSum, trueClaim}
+use Rattle.sumcheck.specs.Function.{f, trueClaim}
 use Rattle.sumcheck.specs.Rounds.{line, truePolynomial}
 use Rattle.sumcheck.specs.Folding.{countFrom}
 use Rattle.sumcheck.proofs.Corners.{corners-some, count-length, count-every, count-distinct}

@@ -1,10 +1,10 @@
 -- A false claim that is accepted had a lucky round (specs/Demands, Sound; document 003, "Soundness analysis"). While the running claim is not the
 -- true one, a message whose sum fits it is not the true polynomial, whose sum is the true claim. Either the two agree at the challenge, and the round
 -- was lucky, or the next running claim is false too. After the last round a false one is not f at the challenges. Assumes nothing.
-use mathlib.Core.Path.{_≡_, refl, sym, ap, ap₂, _∙_, subst}
+use mathlib.Core.Path.{_≡_, refl, sym, ap, ap₂, _∙_}
 use mathlib.Core.Bool.{Bool, true, false}
-use mathlib.Core.List.{List, [], _∷_, _++_, map, append-assoc, append-nil}
-use Prim.Native.Nat.{ℕ, zero, suc, _+_, _-_, _*_, _%_, _≤_, _<_}
+use mathlib.Core.List.{List, [], _∷_, _++_, append-assoc, append-nil}
+use Prim.Native.Nat.{ℕ, zero, suc, _+_, _-_, _<_}
 use native.Mathlib.Nat.{suc-sub-suc, sub-zero}
 use native.Mathlib.Omega.{arith}
 use lib.Dec.{eqb}
@@ -16,9 +16,9 @@ use Rattle.polynomial.specs.Elements.{Every, Elements, Distinct}
 use Rattle.polynomial.specs.Polynomial.{value}
 use Rattle.polynomial.proofs.Roots.{agree-few}
 use Rattle.refusals.specs.First.{choose}
-use Rattle.sumcheck.specs.Function.{f, trueSum, trueClaim}
+use Rattle.sumcheck.specs.Function.{f, trueClaim}
 use Rattle.sumcheck.specs.Rounds.{truePolynomial, polynomialsAfter, truePolynomials}
-use Rattle.sumcheck.specs.Protocol.{Rounds, reached, failed, rounds, roundsFrom, Verdict, accepted, rejected, final, fits, verdict}
+use Rattle.sumcheck.specs.Protocol.{Rounds, reached, failed, rounds, roundsFrom, accepted, rejected, final, fits}
 use Rattle.sumcheck.specs.Demands.{WellFormed, polynomialOf, Agree, Lucky, Sound, NoVariables}
 use Rattle.sumcheck.proofs.Rounds.{polynomial-claim, polynomial-sum, polynomial-length, polynomial-elements}
 use Rattle.sumcheck.proofs.Completeness.{claim-last}

@@ -2,7 +2,7 @@
 -- coefficients; and the sum of those products from the last place to the first. Assumes nothing.
 use mathlib.Core.Path.{_≡_, refl, sym, ap, ap₂, _∙_}
 use mathlib.Core.List.{List, [], _∷_, _++_, map}
-use Prim.Native.Nat.{ℕ, zero, suc, _+_, _-_, _*_, _%_, _≤_, _<_}
+use Prim.Native.Nat.{ℕ, suc, _+_, _-_, _*_, _%_, _≤_, _<_}
 use native.Mathlib.Nat.{sub-self, sub-zero, zero-mul}
 use native.Mathlib.Numerals.{add-one}
 use native.Mathlib.Omega.{arith}
@@ -10,14 +10,13 @@ use lib.ListN.{length, take, drop, getD, replicate, length-map, replicate-append
 use lib.Seq.{getD-take, getD-drop, drop-drop, take-at}
 use Rattle.arithmetic.specs.Modulo.{sub}
 use Rattle.polynomial.specs.Elements.{Every, Elements}
-use Rattle.polynomial.specs.Polynomial.{plus, times, plusAll, timesAll}
+use Rattle.polynomial.specs.Polynomial.{plus, times}
 use Rattle.polynomial.proofs.Lists.{every, every-of-map}
 use Rattle.polynomial.proofs.Shape.{length-times-all, elements-times-all}
 use Rattle.polynomial.proofs.Padded.{lineTimes, lineTimes-some, total, total-plus, length-total, plus-padded}
 use Rattle.sumcheck.specs.Folding.{countFrom}
 use Rattle.sumcheck.specs.Lent.{parts}
 use Rattle.sumcheck.proofs.Corners.{count-cons, count-length}
-use Rattle.sumcheck.proofs.Laid.{parts-count}
 use Rattle.sumcheck.proofs.RoundFolded.{lineAt, termAt, roundOf}
 
 -- a term has one coefficient more than there are tables

@@ -3,7 +3,7 @@
 --   Sound        a false claim that is accepted had a lucky round
 --   NoVariables  with no variables a false claim is never accepted
 use mathlib.Core.Path.{_≡_}
-use mathlib.Core.List.{List, [], _∷_}
+use mathlib.Core.List.{List, []}
 use Prim.Native.Nat.{ℕ, suc, _-_, _≤_, _<_}
 use lib.ListN.{length, take, getD}
 use Rattle.arithmetic.specs.Prime.{Prime}

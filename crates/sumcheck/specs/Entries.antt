@@ -1,9 +1,8 @@
 -- What each entry answers and what it leaves in what was lent, over the modulus n, refusals in document 01's order.
-use mathlib.Core.Bool.{Bool, true, false}
 use mathlib.Core.List.{List, [], _∷_, _++_}
-use Prim.Native.Nat.{ℕ, zero, suc, _+_, _*_, _^_}
+use Prim.Native.Nat.{ℕ, _+_}
 use lib.Dec.{eqb}
-use lib.ListN.{length, drop, replicate}
+use lib.ListN.{drop, replicate}
 use Rattle.refusals.specs.First.{Rule, _when_, Answer, decide, first, choose, either, outside}
 use Rattle.sumcheck.specs.Function.{f, trueSum}
 use Rattle.sumcheck.specs.Rounds.{truePolynomials}

@@ -1,6 +1,6 @@
 -- What a caller lends, and when it is turned down (document 01, "Terms" and "When a call is turned down"), over the modulus n.
 -- vars is m and degree is k; tables are k·2^m numbers, table after table; messages m(k+1) numbers, round after round; challenges m numbers.
-use mathlib.Core.Bool.{Bool, true, false, not}
+use mathlib.Core.Bool.{Bool, not}
 use mathlib.Core.List.{List, [], _∷_, _++_}
 use Prim.Native.Nat.{ℕ, zero, suc, _*_, _^_}
 use lib.Dec.{eqb, ltb, leb}

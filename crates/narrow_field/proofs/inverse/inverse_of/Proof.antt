@@ -1,8 +1,8 @@
 -- `narrow_field::inverse::inverse_of` meets its contract: the loop's invariant is Euclid's, and p is prime. Assumes nothing.
-use mathlib.Core.Path.{_≡_, sym, ap, subst, _∙_}
-use Prim.Native.Nat.{ℕ, _/_, _%_}
+use mathlib.Core.Path.{sym, ap, subst, _∙_}
+use Prim.Native.Nat.{ℕ, _%_}
 use native.Mathlib.Nat.{mod-lt}
-use Rattle.arithmetic.specs.Modulo.{mul, sub}
+use Rattle.arithmetic.specs.Modulo.{sub}
 use Rattle.arithmetic.proofs.Euclid.{Euclid, euclid-start, euclid-step, euclid-end}
 use Rattle.arithmetic.proofs.Mersenne.{prime-31}
 use Rattle.narrow_field.specs.Narrow.{p}

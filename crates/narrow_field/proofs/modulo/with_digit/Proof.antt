@@ -1,6 +1,5 @@
 -- `narrow_field::modulo::with_digit` meets its contract: a digit 1 and a digit 0 of the exponent are one law each. Assumes nothing.
 use mathlib.Core.Path.{ap, _∙_}
-use native.Mathlib.Nat.{mod-lt}
 use Prim.Native.Nat.{ℕ, _/_}
 use Rattle.arithmetic.specs.Modulo.{mul, pow}
 use Rattle.arithmetic.proofs.Power.{power-even, power-odd}

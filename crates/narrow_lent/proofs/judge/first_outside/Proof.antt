@@ -1,5 +1,5 @@
 -- `narrow_lent::judge::first_outside` meets its contract: the walker has passed table · places + i numbers, all of them elements. Assumes nothing.
-use mathlib.Core.Path.{_≡_, ap, sym, _∙_}
+use mathlib.Core.Path.{_≡_, ap}
 use Prim.Native.Nat.{ℕ, _+_, _*_, _-_, _≤_, _<_}
 use lib.ListN.{length}
 use Rattle.sumcheck.proofs.Search.{Passed, passed-none, passed-more, passed-found, passed-all, inside}

@@ -1,8 +1,7 @@
 -- `narrow_lent::judge::shape` meets its contract: one refusal a test, in order. Assumes nothing.
 use mathlib.Core.Path.{_∙_}
-use mathlib.Core.Bool.{false}
 use mathlib.Core.List.{[], _∷_}
-use lib.Dec.{eqb, ltb}
+use lib.Dec.{ltb}
 use borrow.Author.Tests.{lt-ltb, le-ltb, eq-eqb, ne-eqb}
 use Rattle.refusals.specs.Limits.{maxVars, maxDegree}
 use Rattle.refusals.specs.First.{_when_}

@@ -1,6 +1,5 @@
 -- `narrow_lent::judge::tables` meets its contract: refusals 1 and 2 by the shape, then the length. Assumes nothing.
-use mathlib.Core.Path.{sym, subst, _≡_, _∙_}
-use Prim.Native.Nat.{ℕ}
+use mathlib.Core.Path.{sym, _∙_}
 use Rattle.sumcheck.proofs.Answers.{tables-shape, tables-long, tables-none}
 use Rattle.narrow_lent.proofs.Sizes.{product-least}
 use borrow.Author.Needs.{needs}

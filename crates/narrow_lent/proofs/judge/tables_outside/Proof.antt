@@ -1,6 +1,6 @@
 -- `narrow_lent::judge::tables_outside` meets its contract: the search ends before the list does. Assumes nothing.
-use mathlib.Core.Path.{ap, sym, _∙_}
-use Prim.Native.Nat.{ℕ, _*_, _+_}
+use mathlib.Core.Path.{ap, _∙_}
+use Prim.Native.Nat.{ℕ, _*_}
 use native.Mathlib.Nat.{div-add-mod'}
 use lib.Dec.{ltb}
 use lib.ListN.{length}

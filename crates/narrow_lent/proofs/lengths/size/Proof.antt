@@ -1,6 +1,6 @@
 -- `narrow_lent::lengths::size` meets its contract: the size is 2^i, and i stops at vars or at the most variables. Assumes nothing.
 use mathlib.Core.Path.{_≡_, sym, ap, _∙_}
-use Prim.Native.Nat.{ℕ, suc, _+_, _*_, _-_, _^_, _≤_, _<_, min}
+use Prim.Native.Nat.{ℕ, _*_, _-_, _^_, _≤_, min}
 use native.Mathlib.Nat.{pow-le-pow-right, pow-suc}
 use native.Mathlib.Numerals.{add-one}
 use Rattle.refusals.specs.Limits.{maxVars}

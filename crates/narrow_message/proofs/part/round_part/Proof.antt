@@ -1,9 +1,9 @@
 -- `narrow_message::part::round_part` meets its contract: the part lies inside the list, refused or not. Assumes nothing.
-use mathlib.Core.Path.{_≡_, ap, ap₂, _∙_}
-use Prim.Native.Nat.{ℕ, _+_, _-_, _*_, _≤_}
+use mathlib.Core.Path.{_≡_, ap, ap₂}
+use Prim.Native.Nat.{ℕ, _+_, _-_, _≤_}
 use native.Mathlib.Omega.{arith}
 use lib.ListN.{length, take, drop}
-use Rattle.sumcheck.specs.Part.{partStart, partLength}
+use Rattle.sumcheck.specs.Part.{partLength}
 use Rattle.sumcheck.proofs.Part.{part-within}
 use borrow.Author.Needs.{needs}
 use Rattle.narrow_message.proofs.part.round_part.Statement.{statement}

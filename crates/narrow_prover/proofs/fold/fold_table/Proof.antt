@@ -1,8 +1,8 @@
 -- `narrow_prover::fold::fold_table` meets its contract: the first i places are folded, and the places that are read are as they were. Assumes nothing.
 use mathlib.Core.Path.{_≡_, ap, ap₂, _∙_}
-use mathlib.Core.List.{List, _++_}
-use Prim.Native.Nat.{ℕ, _+_, _-_, _≤_, _<_}
-use lib.ListN.{length, drop, getD}
+use mathlib.Core.List.{List}
+use Prim.Native.Nat.{ℕ, _+_, _-_, _≤_}
+use lib.ListN.{length, getD}
 use Rattle.sumcheck.specs.Folding.{between}
 use Rattle.sumcheck.proofs.Written.{written, written-none, written-next, written-long, written-at}
 use Rattle.narrow_field.specs.Narrow.{p}

@@ -1,7 +1,7 @@
 -- `narrow_prover::memory::clear` meets its contract: the first i places are 0. Assumes nothing.
 use mathlib.Core.Path.{_≡_, refl, ap, _∙_}
 use mathlib.Core.List.{List, _++_}
-use Prim.Native.Nat.{ℕ, _+_, _-_, _≤_, _<_}
+use Prim.Native.Nat.{ℕ, _+_, _-_, _≤_}
 use lib.ListN.{length, drop}
 use Rattle.sumcheck.proofs.Written.{written, written-none, written-next, written-long, count-replicate}
 use native.Mathlib.Omega.{arith}

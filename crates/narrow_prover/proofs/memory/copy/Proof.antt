@@ -1,8 +1,8 @@
 -- `narrow_prover::memory::copy` meets its contract: the first i places are those of the list that is copied. Assumes nothing.
 use mathlib.Core.Path.{_≡_, refl, ap, _∙_}
 use mathlib.Core.List.{List, _++_}
-use Prim.Native.Nat.{ℕ, _+_, _-_, _≤_, _<_}
-use lib.ListN.{length, drop, take, getD}
+use Prim.Native.Nat.{ℕ, _+_, _-_, _≤_}
+use lib.ListN.{length, drop, getD}
 use lib.Seq.{take-length}
 use Rattle.sumcheck.proofs.Written.{written, written-none, written-next, written-long, count-take}
 use native.Mathlib.Omega.{arith}

@@ -1,13 +1,8 @@
 -- `narrow_prover::prove::run` meets its contract: the progress, a round at a time. Assumes nothing.
-use mathlib.Core.Path.{_≡_, refl, sym, ap, ap₂, _∙_}
-use mathlib.Core.List.{List, _++_, map}
-use Prim.Native.Nat.{ℕ, _+_, _-_, _*_, _/_, _≤_, _<_}
-use lib.ListN.{length, take, drop, replicate, length-append, length-take, length-drop}
-use lib.Seq.{drop-at}
-use Rattle.sumcheck.specs.Lent.{parts}
-use Rattle.sumcheck.proofs.FoldedParts.{foldedPart}
-use Rattle.sumcheck.proofs.Laid.{laid}
-use Rattle.sumcheck.proofs.RoundFolded.{roundOf}
+use mathlib.Core.Path.{_≡_, ap, _∙_}
+use mathlib.Core.List.{List, _++_}
+use Prim.Native.Nat.{ℕ, _+_, _-_, _≤_}
+use lib.ListN.{length, take, drop, length-take, length-drop}
 use Rattle.sumcheck.proofs.Progress.{Setting, Progress, progress-start, progress-turn, progress-end, half-some, double-places, place-room, copied, copied-setting, progress-long, cleared}
 use Rattle.narrow_field.specs.Narrow.{p}
 use native.Mathlib.Omega.{arith}

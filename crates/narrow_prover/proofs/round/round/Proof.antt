@@ -1,9 +1,9 @@
 -- `narrow_prover::round::round` meets its contract: the sum over the places from i on. Assumes nothing.
 use mathlib.Core.Path.{_≡_, sym, ap, ap₂, _∙_}
-use mathlib.Core.List.{List, _++_, map}
+use mathlib.Core.List.{_++_, map}
 use Prim.Native.Nat.{ℕ, _+_, _-_, _≤_}
 use native.Mathlib.Nat.{sub-zero}
-use lib.ListN.{length, replicate}
+use lib.ListN.{replicate}
 use Rattle.polynomial.specs.Polynomial.{plus}
 use Rattle.polynomial.proofs.Padded.{total}
 use Rattle.sumcheck.specs.Folding.{countFrom}

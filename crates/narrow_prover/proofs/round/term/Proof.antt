@@ -1,11 +1,9 @@
 -- `narrow_prover::round::term` meets its contract: the product of the lines of the tables from the one numbered left on. Assumes nothing.
-use mathlib.Core.Path.{_≡_, ap, _∙_}
+use mathlib.Core.Path.{_≡_, _∙_}
 use mathlib.Core.List.{_++_}
-use Prim.Native.Nat.{ℕ, _+_, _-_, _*_, _≤_, _<_}
+use Prim.Native.Nat.{_+_, _-_, _*_, _≤_, _<_}
 use native.Mathlib.Nat.{mul-le-mul-right}
-use lib.ListN.{length, getD, replicate}
-use Rattle.arithmetic.specs.Modulo.{sub}
-use Rattle.polynomial.proofs.Padded.{lineTimes}
+use lib.ListN.{length, replicate}
 use Rattle.sumcheck.proofs.Parts.{one-part}
 use Rattle.sumcheck.proofs.Terms.{termLeft, term-first, term-turn, term-last}
 use Rattle.narrow_field.specs.Narrow.{p}

@@ -1,7 +1,7 @@
 -- `narrow_tables::sum::sum_of` meets its contract: the total is the sum over the places from i on. Assumes nothing.
 use mathlib.Core.Path.{_≡_, sym, ap, ap₂, _∙_}
-use mathlib.Core.List.{List, [], _∷_, map}
-use Prim.Native.Nat.{ℕ, _+_, _-_, _≤_}
+use mathlib.Core.List.{List, map}
+use Prim.Native.Nat.{ℕ, _-_, _≤_}
 use native.Mathlib.Nat.{sub-zero}
 use Rattle.arithmetic.specs.Modulo.{add}
 use Rattle.polynomial.specs.Elements.{sum}

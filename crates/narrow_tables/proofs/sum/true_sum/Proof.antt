@@ -1,5 +1,5 @@
 -- `narrow_tables::sum::true_sum` meets its contract: the refusals by their tests, in order; then the sum over the places. Assumes nothing.
-use mathlib.Core.Path.{sym, ap, ap₂, _∙_}
+use mathlib.Core.Path.{sym, ap, _∙_}
 use mathlib.Core.List.{map}
 use Prim.Native.Nat.{ℕ}
 use lib.ListN.{length}

@@ -1,8 +1,8 @@
 -- `narrow_tables::value::product_at` meets its contract: what is done times the product of the parts that are left is the whole product. Assumes nothing.
-use mathlib.Core.Path.{_≡_, sym, ap, _∙_}
+use mathlib.Core.Path.{_≡_, ap, _∙_}
 use mathlib.Core.List.{List}
 use Prim.Native.Nat.{ℕ, _+_, _*_, _-_, _<_}
-use lib.ListN.{length, take, drop}
+use lib.ListN.{length}
 use Rattle.arithmetic.specs.Modulo.{mul}
 use Rattle.sumcheck.specs.Extension.{extension}
 use Rattle.sumcheck.specs.Function.{f}

@@ -1,6 +1,6 @@
 -- `prover_cases::show::fill` meets its contract: it is safe, and ends with the list. Assumes nothing.
 use mathlib.Core.Path.{_≡_}
-use Prim.Native.Nat.{ℕ, _-_, _≤_}
+use Prim.Native.Nat.{_-_, _≤_}
 use lib.ListN.{length, length-set}
 use native.Mathlib.Omega.{arith}
 use Rattle.prover_cases.proofs.show.fill.Statement.{statement}
