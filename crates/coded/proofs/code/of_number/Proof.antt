@@ -16,10 +16,10 @@ refused-requires : tie.Need-refused-requires
 refused-requires c κs = search needs
 
 returns : tie.Need-returns
-returns c = cc
+returns c = rw (c .before .before .a .given .1) (c .valued .ensures)
 
 returns-2 : tie.Need-returns-2
-returns-2 c = cc
+returns-2 c = rw (c .before .before .a2 .given .1) (c .refused .ensures)
 
 pub of-number-spec : {M : Type 1} → statement M
 of-number-spec =

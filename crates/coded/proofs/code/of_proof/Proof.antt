@@ -19,7 +19,7 @@ returns : tie.Need-returns
 returns c = cc
 
 returns-2 : tie.Need-returns-2
-returns-2 c = cc
+returns-2 c = rw (c .before .before .a .given .1) (c .refused .ensures)
 
 pub of-proof-spec : {M : Type 1} → statement M
 of-proof-spec =

@@ -22,13 +22,13 @@ refused-requires : tie.Need-refused-requires
 refused-requires c κs = search needs
 
 returns : tie.Need-returns
-returns c = cc
+returns c = rw (c .before .before .a .given .1) (c .valued .ensures)
 
 returns-2 : tie.Need-returns-2
-returns-2 c = cc
+returns-2 c = rw (c .before .before .a2 .given .1) (c .rejected .ensures)
 
 returns-3 : tie.Need-returns-3
-returns-3 c = cc
+returns-3 c = rw (c .before .before .a3 .given .1) (c .refused .ensures)
 
 pub of-rounds-spec : {M : Type 1} → statement M
 of-rounds-spec =

@@ -25,10 +25,10 @@ returns : tie.Need-returns
 returns c = cc
 
 returns-2 : tie.Need-returns-2
-returns-2 c = cc
+returns-2 c = rw (c .before .before .s .given .1) (c .rejected .ensures)
 
 returns-3 : tie.Need-returns-3
-returns-3 c = cc
+returns-3 c = rw (c .before .before .s2 .given .1) (c .refused .ensures)
 
 pub of-step-spec : {M : Type 1} → statement M
 of-step-spec =
