@@ -9,14 +9,14 @@ use Rattle.arithmetic.specs.Modulo.{pow}
 use Rattle.polynomial.specs.Elements.{Every}
 use Rattle.sumcheck.specs.Corners.{corners}
 use Rattle.sumcheck.specs.Function.{f, trueSum}
-use Rattle.sumcheck.specs.Rounds.{truePolynomial}
+use Rattle.sumcheck.specs.TruePolynomial.{truePolynomial}
 use Rattle.refusals.specs.First.{Answer, refused, given}
 use Rattle.sumcheck.specs.Lent.{parts}
 use Rattle.sumcheck.specs.Entries.{checkerAnswer}
 use Rattle.sumcheck.specs.Protocol.{Rounds, reached, failed, rounds, Verdict, accepted, rejected, verdict}
 use Rattle.layout.specs.Number.{decimal, digits}
 use Rattle.layout.specs.Line.{lineAt, form, numbersOf}
-use Rattle.layout.specs.Answer.{answer, fromEdition, fromField, fromVars, fromDegree, fromClaim, fromRounds, fromEnd, linesAt}
+use Rattle.layout.specs.Reading.{reading, fromEdition, fromField, fromVars, fromDegree, fromClaim, fromRounds, fromEnd, linesAt}
 use Rattle.cases.specs.Cases.{Case, sum, at, round, check, lent, last, read, checkFile, fileRounds, Holds, cases, EveryCase}
 
 abbrev both : Bool → Bool → Bool
@@ -117,4 +117,4 @@ every-tested (c ∷ cs) t = (tested c (left (test c) (tests cs) t), every-tested
 pub every-case : EveryCase
 unfolding EveryCase
 every-case = every-tested cases
-    (unfold corners pow parts answer fromEdition fromField fromVars fromDegree fromClaim fromRounds fromEnd linesAt lineAt form numbersOf decimal digits in tt)
+    (unfold corners pow parts reading fromEdition fromField fromVars fromDegree fromClaim fromRounds fromEnd linesAt lineAt form numbersOf decimal digits in tt)

@@ -4,13 +4,12 @@ use mathlib.Core.List.{List, [], _∷_, _++_}
 use Prim.Native.Nat.{ℕ}
 use Rattle.polynomial.specs.Elements.{Every}
 use Rattle.sumcheck.specs.Function.{f, trueSum}
-use Rattle.sumcheck.specs.Rounds.{truePolynomial}
+use Rattle.sumcheck.specs.TruePolynomial.{truePolynomial}
 use Rattle.refusals.specs.First.{Answer, refused, given}
 use Rattle.sumcheck.specs.Lent.{join}
 use Rattle.sumcheck.specs.Entries.{checkerAnswer, roundsAnswer}
 use Rattle.sumcheck.specs.Protocol.{Rounds, reached, rounds, Verdict, accepted, rejected, verdict}
-use Rattle.layout.specs.Answer as Layout
-use Rattle.layout.specs.Answer.{Layout, file, answer}
+use Rattle.layout.specs.Reading.{Layout, Reading, file, refusedAt, reading}
 use Rattle.narrow_file.specs.Narrow.{narrow}
 use Rattle.narrow_file.specs.Example.{wholeFile}
 
@@ -32,16 +31,16 @@ pub data Case : Type 0 where
   read : (n : ℕ) (layout : Layout) (bytes tables challenges : List ℕ) (answer : Answer Verdict) (end : Answer Rounds) → Case
 
 -- the checker's answers on what was read
-abbrev pub onFile : {A : Type 0} → (ℕ → ℕ → ℕ → List ℕ → Answer A) → Layout.Answer → Answer A
+abbrev pub onFile : {A : Type 0} → (ℕ → ℕ → ℕ → List ℕ → Answer A) → Reading → Answer A
 onFile judged (file vars degree claim messages) = judged vars degree claim messages
-onFile judged (Layout.refused number line) = refused number
+onFile judged (refusedAt number line) = refused number
 
 abbrev pub checkFile : ℕ → Layout → List ℕ → List ℕ → List ℕ → Answer Verdict
 checkFile n layout bytes tables challenges =
-    onFile (λ vars degree claim messages. checkerAnswer n vars degree tables claim challenges messages) (answer layout bytes)
+    onFile (λ vars degree claim messages. checkerAnswer n vars degree tables claim challenges messages) (reading layout bytes)
 
 abbrev pub fileRounds : ℕ → Layout → List ℕ → List ℕ → Answer Rounds
-fileRounds n layout bytes challenges = onFile (λ vars degree claim messages. roundsAnswer n vars degree claim challenges messages) (answer layout bytes)
+fileRounds n layout bytes challenges = onFile (λ vars degree claim messages. roundsAnswer n vars degree claim challenges messages) (reading layout bytes)
 
 -- what a case says
 abbrev pub Holds : Case → Type 0

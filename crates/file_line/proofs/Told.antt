@@ -7,11 +7,11 @@ use Prim.Native.Nat.{ℕ, _-_, _≤_}
 use native.Mathlib.Omega.{arith}
 use lib.ListN.{length, take, drop, length-append, take-append-drop}
 use lib.Seq.{drop-append-seam}
-use Rattle.layout.specs.Bytes.{between}
+use Rattle.layout.specs.Bytes.{within}
 use Rattle.layout.specs.Number.{all}
 use Rattle.layout.specs.Line.{Outcome, fault, found, lineAt}
 use Rattle.layout.specs.Line as layout
-use Rattle.layout.specs.Answer.{Answer, refused, answerThen, only}
+use Rattle.layout.specs.Reading.{Reading, refusedAt, readingThen, only}
 use Rattle.layout.proofs.Tests.{both, between-holds}
 use Rattle.layout.proofs.Lines.{found-good}
 use Rattle.file_line.specs.declared.line.Word.{Word}
@@ -60,17 +60,17 @@ module _ (bytes : List ℕ) (at n : ℕ) {wanted line : layout.Line} (same : wan
           (ns, f ∙ ap (found ns) (sym (rest-there bytes at n line ns rest f) ∙ ap (λ (k : ℕ). drop k bytes) p), cc)
 
   -- the answer that goes on from the line
-  pub then-refused : {number m : ℕ} (next : List ℕ → List ℕ → Answer) → r ≡ Refused number m → refused number m ≡ answerThen (lineAt n line (drop at bytes)) next
+  pub then-refused : {number m : ℕ} (next : List ℕ → List ℕ → Reading) → r ≡ Refused number m → refusedAt number m ≡ readingThen (lineAt n line (drop at bytes)) next
   then-refused next e = rw (told-refused e)
 
-  pub then-found : {last place : ℕ} {answer : Answer} (next : ℕ → List ℕ → Answer) → r ≡ Found last place → answer ≡ next last (drop place bytes)
-      → answer ≡ answerThen (lineAt n line (drop at bytes)) (λ ns rest. next (only ns) rest)
+  pub then-found : {last place : ℕ} {reading : Reading} (next : ℕ → List ℕ → Reading) → r ≡ Found last place → reading ≡ next last (drop place bytes)
+      → reading ≡ readingThen (lineAt n line (drop at bytes)) (λ ns rest. next (only ns) rest)
   then-found next e f = let t = told-found e in rw (t .1, t .2) f
 
-only-high : (low high : ℕ) (ns : List ℕ) → all (between low high) ns ≡ true → only ns ≤ high
+only-high : (low high : ℕ) (ns : List ℕ) → all (within low high) ns ≡ true → only ns ≤ high
 only-high low high [] h = omega arith
-only-high low high (n ∷ []) h = between-holds low high n (both (between low high n) true h .0) .1
-only-high low high (n ∷ m ∷ ns) h = only-high low high (m ∷ ns) (both (between low high n) (all (between low high) (m ∷ ns)) h .1)
+only-high low high (n ∷ []) h = between-holds low high n (both (within low high n) true h .0) .1
+only-high low high (n ∷ m ∷ ns) h = only-high low high (m ∷ ns) (both (within low high n) (all (within low high) (m ∷ ns)) h .1)
 
 -- a number that is found is not above the greatest that is wanted
 pub last-high : (bytes : List ℕ) (at n : ℕ) (word : Word) (w : Wanted) (r : Line) {last place : ℕ}

@@ -10,11 +10,11 @@ use lib.Seq.{getD-append-seam}
 use lib.Dec.{eqb}
 use borrow.Author.Tests.{ne-eqb, eq-eqb, eqb-true, eqb-false}
 use Rattle.refusals.specs.First.{choose}
-use Rattle.layout.specs.Bytes.{between, isLetter, classOf, Cut, ended, unended, longer, firstLine, parts}
+use Rattle.layout.specs.Bytes.{within, isLetter, classOf, Cut, ended, unended, longer, firstLine, pieces}
 use Rattle.layout.specs.Bytes as bytes
-use Rattle.layout.specs.Number.{all, isNumber, value}
-use Rattle.layout.specs.Line.{numbersOf, formAfter, form, fault, found, judged, outcome, lineAt}
-use Rattle.layout.specs.Answer.{only}
+use Rattle.layout.specs.Number.{all, isNumber, numberOf}
+use Rattle.layout.specs.Line.{numbersOf, formAfter, form, fault, found, judgedLine, outcome, lineAt}
+use Rattle.layout.specs.Reading.{only}
 use Rattle.layout.proofs.Tests.{between-holds, both}
 use Rattle.layout.proofs.Classes.{means, Means, class-letter}
 use Rattle.file_line.specs.declared.line.Wanted.{Wanted}
@@ -28,25 +28,25 @@ use Rattle.file_line.proofs.Verdict.{none, first-none, verdict, Law, nu
 
 module _ (w : Wanted) (word : List ℕ) (limit : w .high ≤ greatest) (size : ℕ) where
   -- the verdict is what the layout says of the text after `=`
-  verdict-form : (text rest : List ℕ) → verdict w (w .commas) true (size - length rest) (parts text) ≡ brief size (judged (w .line) (lineWith word w) rest (numbersOf (lineWith word w) text))
+  verdict-form : (text rest : List ℕ) → verdict w (w .commas) true (size - length rest) (pieces text) ≡ brief size (judgedLine (w .line) (lineWith word w) rest (numbersOf (lineWith word w) text))
   unfolding verdict numbersOf
-  verdict-form text rest = go (eqb (length (parts text)) (w .commas + 1) && all (isNumber (w .digits)) (parts text)) refl
+  verdict-form text rest = go (eqb (length (pieces text)) (w .commas + 1) && all (isNumber (w .digits)) (pieces text)) refl
     where
-      allowed : (t : Bool) → all (between (w .low) (w .high)) (map value (parts text)) ≡ t
-          → choose t (went (only (map value (parts text))) (size - length rest)) (stopped 12 (w .line)) ≡ brief size (choose t (found (map value (parts text)) rest) (fault 12 (w .line)))
+      allowed : (t : Bool) → all (within (w .low) (w .high)) (map numberOf (pieces text)) ≡ t
+          → choose t (went (only (map numberOf (pieces text))) (size - length rest)) (stopped 12 (w .line)) ≡ brief size (choose t (found (map numberOf (pieces text)) rest) (fault 12 (w .line)))
       allowed true e = refl
       allowed false e = refl
 
-      go : (t : Bool) → (eqb (length (parts text)) (w .commas + 1) && all (isNumber (w .digits)) (parts text)) ≡ t
-          → verdict w (w .commas) true (size - length rest) (parts text) ≡ brief size (judged (w .line) (lineWith word w) rest (numbersOf (lineWith word w) text))
-      go true e = rw e (allowed (all (between (w .low) (w .high)) (map value (parts text))) refl)
+      go : (t : Bool) → (eqb (length (pieces text)) (w .commas + 1) && all (isNumber (w .digits)) (pieces text)) ≡ t
+          → verdict w (w .commas) true (size - length rest) (pieces text) ≡ brief size (judgedLine (w .line) (lineWith word w) rest (numbersOf (lineWith word w) text))
+      go true e = rw e (allowed (all (within (w .low) (w .high)) (map numberOf (pieces text))) refl)
       go false e = rw e
 
   -- the machine over a text, from some letters of the word on, comes to what the layout says of the rest of the text
   Reads : List ℕ → List ℕ → List ℕ → List ℕ → Type 0
   Reads pre ks rest text =
       closedOf w (stepsOf w word (Letters (length pre)) text) (size - length rest)
-      ≡ brief size (judged (w .line) (lineWith word w) rest (formAfter (lineWith word w) (ks ++ 61 ∷ []) text))
+      ≡ brief size (judgedLine (w .line) (lineWith word w) rest (formAfter (lineWith word w) (ks ++ 61 ∷ []) text))
 
   reads-end : (pre ks rest : List ℕ) → Reads pre ks rest []
   unfolding Reads

@@ -3,12 +3,12 @@
 use mathlib.Core.List.{List}
 use Prim.Native.Nat.{ℕ, _+_, _-_}
 use lib.ListN.{length}
-use Rattle.layout.specs.Bytes.{between}
+use Rattle.layout.specs.Bytes.{within}
 use Rattle.layout.specs.Bytes as bytes
 use Rattle.layout.specs.Words as words
 use Rattle.layout.specs.Line.{Outcome, fault, found}
 use Rattle.layout.specs.Line as layout
-use Rattle.layout.specs.Answer.{only}
+use Rattle.layout.specs.Reading.{only}
 use Rattle.file_line.specs.declared.class.Class.{Class}
 use Rattle.file_line.specs.declared.class.Class.the-variants.{Digit, Comma, Equals, LineEnd, Letter, Other}
 use Rattle.file_line.specs.declared.line.Word.{Word}
@@ -39,7 +39,7 @@ letters End = words.end
 -- a line that begins with these letters: one number more than commas, each from the least to the greatest that is wanted
 abbrev pub lineWith : List ℕ → Wanted → layout.Line
 lineWith word wanted =
-    record { word = word; count = wanted .commas + 1; most = wanted .digits; allowed = λ n. between (wanted .low) (wanted .high) n }
+    record { word = word; count = wanted .commas + 1; most = wanted .digits; allowed = λ n. within (wanted .low) (wanted .high) n }
 
 -- the line that is asked for
 abbrev pub lineWanted : Word → Wanted → layout.Line

@@ -6,7 +6,7 @@ use Prim.Native.Nat.{ℕ, _+_, _-_, _*_, min}
 use lib.ListN.{length, getD}
 use lib.Dec.{leb, eqb}
 use Rattle.refusals.specs.First.{choose}
-use Rattle.layout.specs.Bytes.{between, classOf}
+use Rattle.layout.specs.Bytes.{within, classOf}
 use Rattle.layout.specs.Bytes as bytes
 use Rattle.file_line.specs.declared.line.Wanted.{Wanted}
 use Rattle.file_line.specs.declared.state.Number.{Number}
@@ -39,7 +39,7 @@ moreOf n b =
 
 -- whether the numbers up to this one are allowed
 unfoldable pub stillOf : Wanted → Number → Bool
-stillOf wanted n = n .allowed && between (wanted .low) (wanted .high) (n .value)
+stillOf wanted n = n .allowed && within (wanted .low) (wanted .high) (n .value)
 
 unfoldable pub withDigit : Wanted → Number → ℕ → State
 withDigit wanted n b =

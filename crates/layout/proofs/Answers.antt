@@ -9,14 +9,14 @@ use lib.ListN.{length, length-append, length-map}
 use lib.Dec.{ltb}
 use borrow.Author.Tests.{ltb-false}
 use Rattle.refusals.specs.First.{choose}
-use Rattle.layout.specs.Bytes.{parts}
-use Rattle.layout.specs.Number.{value}
+use Rattle.layout.specs.Bytes.{pieces}
+use Rattle.layout.specs.Number.{numberOf}
 use Rattle.layout.specs.Line.{Line, Outcome, fault, found, lineAt}
-use Rattle.layout.specs.Answer.{Layout, Answer, file, refused, answer, answerThen, only, linesAt, editionLine, fieldLine, varsLine, degreeLine, claimLine, roundLine, endLine, fromAfter, fromEnd, fromRounds, fromClaim, fromDegree, fromVars, fromField, fromEdition}
+use Rattle.layout.specs.Reading.{Layout, Reading, file, refusedAt, reading, readingThen, only, linesAt, editionLine, fieldLine, varsLine, degreeLine, claimLine, roundLine, endLine, fromAfter, fromEnd, fromRounds, fromClaim, fromDegree, fromVars, fromField, fromEdition}
 use Rattle.layout.proofs.Lines.{found-good, lines-induction}
 
 -- what an answer that is a file went on from
-went-on : (o : Outcome) (next : List ℕ → List ℕ → Answer) (v d c : ℕ) (cs : List ℕ) → answerThen o next ≡ file v d c cs
+went-on : (o : Outcome) (next : List ℕ → List ℕ → Reading) (v d c : ℕ) (cs : List ℕ) → readingThen o next ≡ file v d c cs
     → (ns : List ℕ) × (rest : List ℕ) × (o ≡ found ns rest) × (next ns rest ≡ file v d c cs)
 went-on (fault a b) next v d c cs e = absurd (let z : _≡_ {A = ℕ} 0 1 = cc in omega arith)
 went-on (found ns rest) next v d c cs e = (ns, rest, refl, e)
@@ -99,20 +99,20 @@ module _ (layout : Layout) (v d c : ℕ) (cs bytes : List ℕ) (l : length bytes
       (record { numbers = z .0; rest = z .1; found-there = z .2 })
       (r .0) (r .1) (k .0) (k .1) (r .2) (k .2) (k .3)
 
-pub whole : (layout : Layout) (v d c : ℕ) (cs bytes : List ℕ) → answer layout bytes ≡ file v d c cs → Whole layout v d c cs bytes
-unfolding answer
+pub whole : (layout : Layout) (v d c : ℕ) (cs bytes : List ℕ) → reading layout bytes ≡ file v d c cs → Whole layout v d c cs bytes
+unfolding reading
 whole layout v d c cs bytes e = size (ltb (layout .mostBytes) (length bytes)) refl e
   where
     size : (t : Bool) → ltb (layout .mostBytes) (length bytes) ≡ t
-        → choose (ltb (layout .mostBytes) (length bytes)) (refused 9 0) (fromEdition layout bytes) ≡ file v d c cs → Whole layout v d c cs bytes
-    size true f g = absurd (let g′ : refused 9 0 ≡ file v d c cs = rw f at g in let z : _≡_ {A = ℕ} 0 1 = cc in omega arith)
+        → choose (ltb (layout .mostBytes) (length bytes)) (refusedAt 9 0) (fromEdition layout bytes) ≡ file v d c cs → Whole layout v d c cs bytes
+    size true f g = absurd (let g′ : refusedAt 9 0 ≡ file v d c cs = rw f at g in let z : _≡_ {A = ℕ} 0 1 = cc in omega arith)
     size false f g = lines layout v d c cs bytes (ltb-false (layout .mostBytes) (length bytes) f) (rw f at g)
 
 -- a line that is found has as many numbers as it must
 pub found-count : (n : ℕ) (line : Line) (s ns rest : List ℕ) → lineAt n line s ≡ found ns rest → length ns ≡ line .count
 found-count n line s ns rest e =
     let g = found-good n line s ns rest e in
-    ap length (g .parted .values) ∙ (length-map (parts (g .text)) value ∙ g .parted .asMany)
+    ap length (g .parted .values) ∙ (length-map (pieces (g .text)) numberOf ∙ g .parted .asMany)
 
 pub lines-count : (m n : ℕ) (line : Line) (s cs rest : List ℕ) → linesAt n m line s ≡ found cs rest → length cs ≡ m * line .count
 lines-count m n line s cs rest e =
@@ -121,7 +121,7 @@ lines-count m n line s cs rest e =
     m n s cs e
 
 -- a file has as many coefficients as its vars and degree ask for
-pub file-count : (layout : Layout) (v d c : ℕ) (cs bytes : List ℕ) → answer layout bytes ≡ file v d c cs → length cs ≡ v * layout .perRound d
+pub file-count : (layout : Layout) (v d c : ℕ) (cs bytes : List ℕ) → reading layout bytes ≡ file v d c cs → length cs ≡ v * layout .perRound d
 file-count layout v d c cs bytes e =
     let w = whole layout v d c cs bytes e in
     lines-count v 6 (roundLine layout d) (w .fifth .rest) cs (w .afterRounds) (w .rounds)

@@ -9,8 +9,8 @@ use native.Mathlib.Omega.{arith}
 use lib.ListN.{length, length-append}
 use lib.Dec.{eqb, ltb}
 use borrow.Author.Tests.{eqb-false, lt-ltb, le-ltb, ltb-true, ltb-false, not-true}
-use Rattle.layout.specs.Bytes.{between, isDigit}
-use Rattle.layout.specs.Number.{all, plain, isNumber, value, valueFrom, digits, decimal}
+use Rattle.layout.specs.Bytes.{within, isDigit}
+use Rattle.layout.specs.Number.{all, plain, isNumber, numberOf, valueFrom, digits, decimal}
 use Rattle.layout.proofs.Tests.{between-in, between-holds, both}
 use Rattle.layout.proofs.Numbers.{number-yes, all-append, plain-first, valueFrom-append}
 
@@ -70,12 +70,12 @@ more-digits v (b ∷ rest) h d =
 number-parts : (most : ℕ) (text : List ℕ) → isNumber most text ≡ true
     → (all isDigit text ≡ true) × (1 ≤ length text) × (length text ≤ most) × (plain text ≡ true)
 number-parts most text e =
-    let a = both (all isDigit text) (between 1 most (length text) && plain text) e in
-    let b = both (between 1 most (length text)) (plain text) (a .1) in
+    let a = both (all isDigit text) (within 1 most (length text) && plain text) e in
+    let b = both (within 1 most (length text)) (plain text) (a .1) in
     let c = between-holds 1 most (length text) (b .0) in
     (a .0, c .0, c .1, b .1)
 
-pub number-decimal : (most : ℕ) (text : List ℕ) → isNumber most text ≡ true → (text ≡ decimal (value text)) × (length text ≤ most)
+pub number-decimal : (most : ℕ) (text : List ℕ) → isNumber most text ≡ true → (text ≡ decimal (numberOf text)) × (length text ≤ most)
 number-decimal most [] e = absurd (let h = number-parts most [] e in omega arith)
 number-decimal most (b ∷ []) e =
     let h = number-parts most (b ∷ []) e in
@@ -97,7 +97,7 @@ number-decimal most (b ∷ c ∷ rest) e =
 
 -- the digits of n: of value n, digits all, and with a first digit that is 0 only for 0 itself
 record Shape (n : ℕ) : Type 0 where
-  says : value (decimal n) ≡ n
+  says : numberOf (decimal n) ≡ n
   each : all isDigit (decimal n) ≡ true
   first : ℕ
   later : List ℕ
@@ -109,7 +109,7 @@ shape-one : (n : ℕ) → n < 10 → Shape n
 shape-one n h =
     let d = decimal-one n h in
     record {
-      says = ap value d ∙ omega arith;
+      says = ap numberOf d ∙ omega arith;
       each = ap (all isDigit) d ∙ rw (between-in 48 57 (48 + n) (omega arith) (omega arith));
       first = 48 + n;
       later = [];
@@ -123,7 +123,7 @@ shape-more v e h l s =
     let d = decimal-more v e h l in
     let f : decimal (v * 10 + e) ≡ s .first ∷ (s .later ++ (48 + e) ∷ []) = d ∙ ap (λ (ds : List ℕ). ds ++ (48 + e) ∷ []) (s .here) in
     record {
-      says = ap value d ∙ (valueFrom-append 0 (decimal v) (48 + e) ∙ omega (arith, s .says));
+      says = ap numberOf d ∙ (valueFrom-append 0 (decimal v) (48 + e) ∙ omega (arith, s .says));
       each = ap (all isDigit) d ∙ (all-append isDigit (decimal v) ((48 + e) ∷ []) ∙ rw (s .each, between-in 48 57 (48 + e) (omega arith) (omega arith)));
       first = s .first;
       later = s .later ++ (48 + e) ∷ [];
@@ -143,7 +143,7 @@ shape (suc fuel) n h = go (ltb n 10) refl (shape fuel (n / 10))
         let m : n / 10 * 10 + n % 10 ≡ n = omega arith in
         subst Shape m (shape-more (n / 10) (n % 10) (omega arith) (omega arith) (ih (omega arith)))
 
-pub decimal-value : (n : ℕ) → value (decimal n) ≡ n
+pub decimal-value : (n : ℕ) → numberOf (decimal n) ≡ n
 decimal-value n = shape (suc n) n (omega arith) .says
 
 pub decimal-digits : (n : ℕ) → all isDigit (decimal n) ≡ true

@@ -10,8 +10,8 @@ use lib.Dec.{leb, ltb}
 use borrow.Author.Tests.{eqb-true, leb-true, ltb-true, eq-eqb, le-leb, lt-ltb, le-ltb}
 use Rattle.layout.specs.Number.{all, decimal}
 use Rattle.layout.specs.Line.{Line, found, lineAt}
-use Rattle.layout.specs.Answer.{Layout, file, answer, only, editionLine, fieldLine, varsLine, degreeLine, claimLine, roundLine, endLine, fromEnd, fromRounds, fromClaim, fromDegree, fromVars, fromField, fromEdition}
-use Rattle.layout.specs.File.{lineOf, linesOf, fileOf, Elements, WellFormed, Exactly, OneContent}
+use Rattle.layout.specs.Reading.{Layout, file, reading, only, editionLine, fieldLine, varsLine, degreeLine, claimLine, roundLine, endLine, fromEnd, fromRounds, fromClaim, fromDegree, fromVars, fromField, fromEdition}
+use Rattle.layout.specs.File.{lineOf, linesOf, fileOf, Writable, FileParts, Exactly, OneContent}
 use Rattle.layout.proofs.Tests.{both, between-holds, between-in}
 use Rattle.layout.proofs.Answers.{Whole, whole, found-count, lines-count}
 use Rattle.layout.proofs.Written.{Fit, found-written, found-fit, found-allowed, written-found, lines-written, lines-allowed, lines-fit, written-lines}
@@ -36,7 +36,7 @@ one n line s ns rest c e =
       fits = subst (Fit (line .most)) q (found-fit n line s ns rest e) .0;
     }
 
-elements : (p most : ℕ) (ns : List ℕ) → all (λ n. ltb n p) ns ≡ true → Fit most ns → Elements p most ns
+elements : (p most : ℕ) (ns : List ℕ) → all (λ n. ltb n p) ns ≡ true → Fit most ns → Writable p most ns
 elements p most [] a f = tt
 elements p most (n ∷ ns) a f =
     let r = both (ltb n p) (all (λ n. ltb n p) ns) a in
@@ -92,7 +92,7 @@ module _ (layout : Layout) (v d c : ℕ) (cs bytes : List ℕ) (w : Whole layout
       ∙ ap (λ (x : List ℕ). linesOf v (roundLine layout d) cs ++ x)
       (known v is-end last ∙ append-nil (lineOf (endLine layout v) (v ∷ []))))))))
 
-  well-formed : WellFormed layout v d c cs
+  well-formed : FileParts layout v d c cs
   well-formed =
       let k = between-holds 1 (layout .mostDegree) d (subst (λ (n : ℕ). degreeLine layout .allowed n ≡ true) (sym (w .degree)) (fourth .passes)) in
       record {
@@ -100,7 +100,7 @@ module _ (layout : Layout) (v d c : ℕ) (cs bytes : List ℕ) (w : Whole layout
         degreeNotNone = k .0;
         degreeAllowed = k .1;
         claimElement =
-            subst (λ (n : ℕ). Elements (layout .modulus) (layout .laterDigits) (n ∷ [])) (sym (w .claim))
+            subst (λ (n : ℕ). Writable (layout .modulus) (layout .laterDigits) (n ∷ [])) (sym (w .claim))
             (ltb-true _ _ (fifth .passes), fifth .fits, tt);
         elements =
             elements (layout .modulus) (layout .laterDigits) cs
@@ -115,15 +115,15 @@ module _ (layout : Layout) (v d c : ℕ) (cs bytes : List ℕ) (w : Whole layout
       }
 
 -- the file of well-formed parts is answered as that file
-below : (p most : ℕ) (ns : List ℕ) → Elements p most ns → all (λ n. ltb n p) ns ≡ true
+below : (p most : ℕ) (ns : List ℕ) → Writable p most ns → all (λ n. ltb n p) ns ≡ true
 below p most [] e = refl
 below p most (n ∷ ns) e = rw (lt-ltb n p (e .0)) (below p most ns (e .2))
 
-fit : (p most : ℕ) (ns : List ℕ) → Elements p most ns → Fit most ns
+fit : (p most : ℕ) (ns : List ℕ) → Writable p most ns → Fit most ns
 fit p most [] e = tt
 fit p most (n ∷ ns) e = (e .1, fit p most ns (e .2))
 
-module _ (layout : Layout) (v d c : ℕ) (cs : List ℕ) (some : (k : ℕ) → 1 ≤ k → 1 ≤ layout .perRound k) (w : WellFormed layout v d c cs) where
+module _ (layout : Layout) (v d c : ℕ) (cs : List ℕ) (some : (k : ℕ) → 1 ≤ k → 1 ≤ layout .perRound k) (w : FileParts layout v d c cs) where
   from-edition : (r : List ℕ) → fromEdition layout (lineOf (editionLine layout) (layout .edition ∷ []) ++ r) ≡ fromField layout r
   unfolding fromEdition
   from-edition r =
@@ -169,8 +169,8 @@ module _ (layout : Layout) (v d c : ℕ) (cs : List ℕ) (some : (k : ℕ) → 1
       ∙ written-found (v + 6) (endLine layout v) v [] [] refl refl (w .varsFit, tt) (rw t) in
       rw l
 
-  answered : answer layout (fileOf layout v d c cs) ≡ file v d c cs
-  unfolding answer
+  answered : reading layout (fileOf layout v d c cs) ≡ file v d c cs
+  unfolding reading
   answered =
       rw (le-ltb (layout .mostBytes) (length (fileOf layout v d c cs)) (w .fileFits))
       (unfold fileOf in from-edition _ ∙ (from-field _ ∙ (from-vars _ ∙ (from-degree _ ∙ (from-claim _ ∙ (from-rounds _ ∙ from-end))))))
@@ -178,9 +178,9 @@ module _ (layout : Layout) (v d c : ℕ) (cs : List ℕ) (some : (k : ℕ) → 1
 pub exactly : Exactly
 exactly layout v d c cs bytes some = (
   λ e. let w = whole layout v d c cs bytes e in (is-file layout v d c cs bytes w, well-formed layout v d c cs bytes w),
-  λ h. ap (answer layout) (h .0) ∙ answered layout v d c cs some (h .1),
+  λ h. ap (reading layout) (h .0) ∙ answered layout v d c cs some (h .1),
 )
 
 pub one-content : OneContent
 one-content layout v w d e c b ms ns some p q f =
-    sym (answered layout v d c ms some p) ∙ (ap (answer layout) f ∙ answered layout w e b ns some q)
+    sym (answered layout v d c ms some p) ∙ (ap (reading layout) f ∙ answered layout w e b ns some q)

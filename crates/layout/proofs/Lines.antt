@@ -9,10 +9,10 @@ use lib.ListN.{length}
 use lib.Dec.{eqb}
 use borrow.Author.Tests.{eqb-true}
 use Rattle.refusals.specs.First.{choose}
-use Rattle.layout.specs.Bytes.{Cut, ended, unended, longer, firstLine, parts}
-use Rattle.layout.specs.Number.{all, isNumber, value}
-use Rattle.layout.specs.Line.{Line, Form, formless, numbers, numbersOf, formAfter, form, Outcome, fault, found, judged, outcome, lineAt, andThen, before}
-use Rattle.layout.specs.Answer.{linesAt}
+use Rattle.layout.specs.Bytes.{Cut, ended, unended, longer, firstLine, pieces}
+use Rattle.layout.specs.Number.{all, isNumber, numberOf}
+use Rattle.layout.specs.Line.{Line, Form, formless, numbers, numbersOf, formAfter, form, Outcome, fault, found, judgedLine, outcome, lineAt, andThen, before}
+use Rattle.layout.specs.Reading.{linesAt}
 use Rattle.layout.proofs.Tests.{both}
 
 -- a first line that has an end: the bytes before the first byte 10, and those after it
@@ -52,36 +52,36 @@ form-after line (b ∷ beginning) (c ∷ text) ns e = go (eqb c b) refl e (form-
     go false f g ih = absurd (let g′ : formless ≡ numbers ns = rw f at g in let z : _≡_ {A = ℕ} 0 1 = cc in omega arith)
 
 -- numbers of right form: the parts, as many as wanted, each a number
-pub record Parts (line : Line) (t ns : List ℕ) : Type 0 where
-  pub asMany : length (parts t) ≡ line .count
-  pub each : all (isNumber (line .most)) (parts t) ≡ true
-  pub values : ns ≡ map value (parts t)
+pub record Pieces (line : Line) (t ns : List ℕ) : Type 0 where
+  pub asMany : length (pieces t) ≡ line .count
+  pub each : all (isNumber (line .most)) (pieces t) ≡ true
+  pub values : ns ≡ map numberOf (pieces t)
 
-pub numbers-parts : (line : Line) (t ns : List ℕ) → numbersOf line t ≡ numbers ns → Parts line t ns
+pub numbers-pieces : (line : Line) (t ns : List ℕ) → numbersOf line t ≡ numbers ns → Pieces line t ns
 unfolding numbersOf
-numbers-parts line t ns e = go (eqb (length (parts t)) (line .count) && all (isNumber (line .most)) (parts t)) refl e
+numbers-pieces line t ns e = go (eqb (length (pieces t)) (line .count) && all (isNumber (line .most)) (pieces t)) refl e
   where
-    go : (b : Bool) → (eqb (length (parts t)) (line .count) && all (isNumber (line .most)) (parts t)) ≡ b
-        → choose (eqb (length (parts t)) (line .count) && all (isNumber (line .most)) (parts t)) (numbers (map value (parts t))) formless ≡ numbers ns
-        → Parts line t ns
+    go : (b : Bool) → (eqb (length (pieces t)) (line .count) && all (isNumber (line .most)) (pieces t)) ≡ b
+        → choose (eqb (length (pieces t)) (line .count) && all (isNumber (line .most)) (pieces t)) (numbers (map numberOf (pieces t))) formless ≡ numbers ns
+        → Pieces line t ns
     go true f g =
-        let r = both (eqb (length (parts t)) (line .count)) (all (isNumber (line .most)) (parts t)) f in
-        let g′ : numbers (map value (parts t)) ≡ numbers ns = rw f at g in
-        record { asMany = eqb-true (length (parts t)) (line .count) (r .0); each = r .1; values = cc }
+        let r = both (eqb (length (pieces t)) (line .count)) (all (isNumber (line .most)) (pieces t)) f in
+        let g′ : numbers (map numberOf (pieces t)) ≡ numbers ns = rw f at g in
+        record { asMany = eqb-true (length (pieces t)) (line .count) (r .0); each = r .1; values = cc }
     go false f g = absurd (let g′ : formless ≡ numbers ns = rw f at g in let z : _≡_ {A = ℕ} 0 1 = cc in omega arith)
 
 -- a line that is found
 pub record Good (line : Line) (s ns rest : List ℕ) : Type 0 where
   pub text : List ℕ
   pub bytes : s ≡ (line .word ++ 61 ∷ []) ++ text ++ 10 ∷ rest
-  pub parted : Parts line text ns
+  pub parted : Pieces line text ns
   pub allowed : all (line .allowed) ns ≡ true
 
 pub found-good : (n : ℕ) (line : Line) (s ns rest : List ℕ) → lineAt n line s ≡ found ns rest → Good line s ns rest
 unfolding lineAt form
 found-good n line s ns rest e = cut (firstLine s) refl e
   where
-    judge : (text : List ℕ) (r : List ℕ) (f : Form) → form line text ≡ f → s ≡ text ++ 10 ∷ r → judged n line r f ≡ found ns rest → Good line s ns rest
+    judge : (text : List ℕ) (r : List ℕ) (f : Form) → form line text ≡ f → s ≡ text ++ 10 ∷ r → judgedLine n line r f ≡ found ns rest → Good line s ns rest
     judge text r formless f g h = absurd (let z : _≡_ {A = ℕ} 0 1 = cc in omega arith)
     judge text r (numbers ms) f g h = test (all (line .allowed) ms) refl h
       where
@@ -94,7 +94,7 @@ found-good n line s ns rest e = cut (firstLine s) refl e
             record {
               text = a .0;
               bytes = g ∙ (ap (λ (xs : List ℕ). xs ++ 10 ∷ r) (a .1) ∙ ap (λ (xs : List ℕ). (line .word ++ 61 ∷ []) ++ a .0 ++ 10 ∷ xs) q);
-              parted = subst (Parts line (a .0)) p (numbers-parts line (a .0) ms (a .2));
+              parted = subst (Pieces line (a .0)) p (numbers-pieces line (a .0) ms (a .2));
               allowed = ap (all (line .allowed)) (sym p) ∙ k;
             }
         test false k l = absurd (let l′ : fault 12 n ≡ found ns rest = rw k at l in let z : _≡_ {A = ℕ} 0 1 = cc in omega arith)

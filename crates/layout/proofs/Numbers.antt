@@ -6,7 +6,7 @@ use Prim.Native.Nat.{ℕ, _+_, _-_, _*_, _≤_, _<_}
 use lib.ListN.{length}
 use lib.Dec.{eqb}
 use borrow.Author.Tests.{ne-eqb}
-use Rattle.layout.specs.Bytes.{between, isDigit, parts}
+use Rattle.layout.specs.Bytes.{within, isDigit, pieces}
 use Rattle.layout.specs.Number.{all, plain, isNumber, valueFrom}
 use Rattle.layout.proofs.Tests.{between-in, between-high}
 
@@ -23,7 +23,7 @@ pub number-long : (most : ℕ) (text : List ℕ) → most < length text → isNu
 number-long most text h = and-right (all isDigit text) _ (rw (between-high 1 most (length text) h))
 
 pub number-plain : (most : ℕ) (text : List ℕ) → plain text ≡ false → isNumber most text ≡ false
-number-plain most text p = and-right (all isDigit text) _ (and-right (between 1 most (length text)) _ p)
+number-plain most text p = and-right (all isDigit text) _ (and-right (within 1 most (length text)) _ p)
 
 pub all-append : {A : Type 0} (test : A → Bool) (xs ys : List A) → all test (xs ++ ys) ≡ (all test xs && all test ys)
 all-append test [] ys = refl
@@ -39,11 +39,11 @@ valueFrom-append v [] b = refl
 valueFrom-append v (d ∷ ds) b = valueFrom-append (v * 10 + (d - 48)) ds b
 
 -- there is always a first part
-pub parts-some : (text : List ℕ) → (part : List ℕ) × (more : List (List ℕ)) × (parts text ≡ part ∷ more)
-parts-some [] = ([], [], refl)
-parts-some (b ∷ text) = go (eqb b 44) refl (parts-some text)
+pub pieces-some : (text : List ℕ) → (part : List ℕ) × (more : List (List ℕ)) × (pieces text ≡ part ∷ more)
+pieces-some [] = ([], [], refl)
+pieces-some (b ∷ text) = go (eqb b 44) refl (pieces-some text)
   where
-    go : (t : Bool) → eqb b 44 ≡ t → (part : List ℕ) × (more : List (List ℕ)) × (parts text ≡ part ∷ more)
-        → (part : List ℕ) × (more : List (List ℕ)) × (parts (b ∷ text) ≡ part ∷ more)
-    go true e p = ([], parts text, rw e)
+    go : (t : Bool) → eqb b 44 ≡ t → (part : List ℕ) × (more : List (List ℕ)) × (pieces text ≡ part ∷ more)
+        → (part : List ℕ) × (more : List (List ℕ)) × (pieces (b ∷ text) ≡ part ∷ more)
+    go true e p = ([], pieces text, rw e)
     go false e p = (b ∷ p .0, p .1, rw (e, p .2))

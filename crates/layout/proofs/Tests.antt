@@ -5,18 +5,18 @@ use Prim.Native.Nat.{ℕ, _≤_, _<_}
 use native.Mathlib.Omega.{arith}
 use lib.Dec.{leb}
 use borrow.Author.Tests.{le-leb, lt-leb, leb-true}
-use Rattle.layout.specs.Bytes.{between}
+use Rattle.layout.specs.Bytes.{within}
 
-pub between-in : (low high n : ℕ) → low ≤ n → n ≤ high → between low high n ≡ true
+pub between-in : (low high n : ℕ) → low ≤ n → n ≤ high → within low high n ≡ true
 between-in low high n l h = rw (le-leb low n l, le-leb n high h)
 
-pub between-low : (low high n : ℕ) → n < low → between low high n ≡ false
+pub between-low : (low high n : ℕ) → n < low → within low high n ≡ false
 between-low low high n l = rw (lt-leb low n l)
 
-pub between-high : (low high n : ℕ) → high < n → between low high n ≡ false
+pub between-high : (low high n : ℕ) → high < n → within low high n ≡ false
 between-high low high n h = go (leb low n) refl
   where
-    go : (t : Bool) → leb low n ≡ t → between low high n ≡ false
+    go : (t : Bool) → leb low n ≡ t → within low high n ≡ false
     go true e = rw (e, lt-leb n high h)
     go false e = rw e
 
@@ -28,7 +28,7 @@ both false t e = (e, absurd (let z : _≡_ {A = Bool} false true = e in false-no
     false-not-true : _≡_ {A = Bool} false true → ⊥
     false-not-true z = let w : _≡_ {A = ℕ} 0 1 = cc in omega arith
 
-pub between-holds : (low high n : ℕ) → between low high n ≡ true → (low ≤ n) × (n ≤ high)
+pub between-holds : (low high n : ℕ) → within low high n ≡ true → (low ≤ n) × (n ≤ high)
 between-holds low high n e =
     let h = both (leb low n) (leb n high) e in
     (leb-true low n (h .0), leb-true n high (h .1))

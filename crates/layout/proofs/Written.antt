@@ -9,13 +9,13 @@ use lib.ListN.{length, take, drop, length-map, length-drop, take-append-drop}
 use lib.Seq.{take-at, drop-at, length-take-le}
 use lib.Dec.{eqb}
 use borrow.Author.Tests.{eq-eqb, ne-eqb, eqb-true, not-true}
-use Rattle.layout.specs.Bytes.{ended, longer, firstLine, parts, widen, isDigit, isLetter}
-use Rattle.layout.specs.Number.{all, isNumber, value, decimal}
-use Rattle.layout.specs.Line.{Line, numbers, numbersOf, formAfter, form, Outcome, found, judged, outcome, lineAt, andThen, before}
-use Rattle.layout.specs.Answer.{linesAt}
+use Rattle.layout.specs.Bytes.{ended, longer, firstLine, pieces, widen, isDigit, isLetter}
+use Rattle.layout.specs.Number.{all, isNumber, numberOf, decimal}
+use Rattle.layout.specs.Line.{Line, numbers, numbersOf, formAfter, form, Outcome, found, judgedLine, outcome, lineAt, andThen, before}
+use Rattle.layout.specs.Reading.{linesAt}
 use Rattle.layout.specs.File.{list, lineOf, linesOf}
 use Rattle.layout.proofs.Tests.{both, between-holds}
-use Rattle.layout.proofs.Numbers.{parts-some, all-append}
+use Rattle.layout.proofs.Numbers.{pieces-some, all-append}
 use Rattle.layout.proofs.Lines.{found-good, lines-induction}
 use Rattle.layout.proofs.Answers.{found-count}
 use Rattle.layout.proofs.Decimal.{number-decimal, decimal-value, decimal-digits, decimal-number}
@@ -36,19 +36,19 @@ join-widen b [] = refl
 join-widen b (p ∷ []) = refl
 join-widen b (p ∷ q ∷ ps) = refl
 
-join-parts : (text : List ℕ) → join (parts text) ≡ text
-join-parts [] = refl
-join-parts (b ∷ text) = go (eqb b 44) refl (parts-some text) (join-parts text)
+join-pieces : (text : List ℕ) → join (pieces text) ≡ text
+join-pieces [] = refl
+join-pieces (b ∷ text) = go (eqb b 44) refl (pieces-some text) (join-pieces text)
   where
-    go : (t : Bool) → eqb b 44 ≡ t → ((p : List ℕ) × (ps : List (List ℕ)) × (parts text ≡ p ∷ ps)) → join (parts text) ≡ text → join (parts (b ∷ text)) ≡ b ∷ text
+    go : (t : Bool) → eqb b 44 ≡ t → ((p : List ℕ) × (ps : List (List ℕ)) × (pieces text ≡ p ∷ ps)) → join (pieces text) ≡ text → join (pieces (b ∷ text)) ≡ b ∷ text
     go true e s ih =
         let z = eqb-true b 44 e in
         rw e
         (ap (λ (ps : List (List ℕ)). join ([] ∷ ps)) (s .2)
         ∙ (ap (λ (ps : List (List ℕ)). 44 ∷ join ps) (sym (s .2)) ∙ (ap (λ (t : List ℕ). 44 ∷ t) ih ∙ ap (λ (c : ℕ). c ∷ text) (sym z))))
-    go false e s ih = rw e (join-widen b (parts text) ∙ ap (λ (t : List ℕ). b ∷ t) ih)
+    go false e s ih = rw e (join-widen b (pieces text) ∙ ap (λ (t : List ℕ). b ∷ t) ih)
 
-values-decimal : (most : ℕ) (ps : List (List ℕ)) → all (isNumber most) ps ≡ true → map decimal (map value ps) ≡ ps
+values-decimal : (most : ℕ) (ps : List (List ℕ)) → all (isNumber most) ps ≡ true → map decimal (map numberOf ps) ≡ ps
 values-decimal most [] h = refl
 values-decimal most (p ∷ ps) h =
     let r = both (isNumber most p) (all (isNumber most) ps) h in
@@ -64,9 +64,9 @@ found-written n line s ns rest e =
     let g = found-good n line s ns rest e in
     let t = g .text in
     let w : t ≡ list ns =
-    sym (join-parts t)
-    ∙ (ap join (sym (values-decimal (line .most) (parts t) (g .parted .each)))
-    ∙ (sym (list-join (map value (parts t))) ∙ ap list (sym (g .parted .values)))) in
+    sym (join-pieces t)
+    ∙ (ap join (sym (values-decimal (line .most) (pieces t) (g .parted .each)))
+    ∙ (sym (list-join (map numberOf (pieces t))) ∙ ap list (sym (g .parted .values)))) in
     g .bytes ∙ (ap (λ (x : List ℕ). (line .word ++ 61 ∷ []) ++ x ++ 10 ∷ rest) w ∙ shape (line .word) (list ns) rest)
 
 -- numbers that have at most so many digits
@@ -75,7 +75,7 @@ Fit most [] = Unit {0}
 Fit most (n ∷ ns) = (length (decimal n) ≤ most) × Fit most ns
 
 -- the numbers of a found line have no more digits than they may
-values-fit : (most : ℕ) (ps : List (List ℕ)) → all (isNumber most) ps ≡ true → Fit most (map value ps)
+values-fit : (most : ℕ) (ps : List (List ℕ)) → all (isNumber most) ps ≡ true → Fit most (map numberOf ps)
 values-fit most [] h = tt
 values-fit most (p ∷ ps) h =
     let r = both (isNumber most p) (all (isNumber most) ps) h in
@@ -85,7 +85,7 @@ values-fit most (p ∷ ps) h =
 pub found-fit : (n : ℕ) (line : Line) (s ns rest : List ℕ) → lineAt n line s ≡ found ns rest → Fit (line .most) ns
 found-fit n line s ns rest e =
     let g = found-good n line s ns rest e in
-    subst (Fit (line .most)) (sym (g .parted .values)) (values-fit (line .most) (parts (g .text)) (g .parted .each))
+    subst (Fit (line .most)) (sym (g .parted .values)) (values-fit (line .most) (pieces (g .text)) (g .parted .each))
 
 pub found-allowed : (n : ℕ) (line : Line) (s ns rest : List ℕ) → lineAt n line s ≡ found ns rest → all (line .allowed) ns ≡ true
 found-allowed n line s ns rest e = found-good n line s ns rest e .allowed
@@ -94,28 +94,28 @@ found-allowed n line s ns rest e = found-good n line s ns rest e .allowed
 digit-not-comma : (b : ℕ) → isDigit b ≡ true → eqb b 44 ≡ false
 digit-not-comma b h = let r = between-holds 48 57 b h in ne-eqb b 44 (λ e. omega arith)
 
-part-end : (p : List ℕ) → all isDigit p ≡ true → parts p ≡ p ∷ []
+part-end : (p : List ℕ) → all isDigit p ≡ true → pieces p ≡ p ∷ []
 part-end [] h = refl
 part-end (b ∷ p) h =
     let r = both (isDigit b) (all isDigit p) h in
     rw (digit-not-comma b (r .0)) (ap (widen b) (part-end p (r .1)))
 
-part-comma : (p text : List ℕ) → all isDigit p ≡ true → parts (p ++ 44 ∷ text) ≡ p ∷ parts text
+part-comma : (p text : List ℕ) → all isDigit p ≡ true → pieces (p ++ 44 ∷ text) ≡ p ∷ pieces text
 part-comma [] text h = refl
 part-comma (b ∷ p) text h =
     let r = both (isDigit b) (all isDigit p) h in
     rw (digit-not-comma b (r .0)) (ap (widen b) (part-comma p text (r .1)))
 
-parts-list : (n : ℕ) (ns : List ℕ) → parts (list (n ∷ ns)) ≡ map decimal (n ∷ ns)
-parts-list n [] = part-end (decimal n) (decimal-digits n)
-parts-list n (m ∷ ns) =
-    part-comma (decimal n) (list (m ∷ ns)) (decimal-digits n) ∙ ap (λ (ps : List (List ℕ)). decimal n ∷ ps) (parts-list m ns)
+pieces-list : (n : ℕ) (ns : List ℕ) → pieces (list (n ∷ ns)) ≡ map decimal (n ∷ ns)
+pieces-list n [] = part-end (decimal n) (decimal-digits n)
+pieces-list n (m ∷ ns) =
+    part-comma (decimal n) (list (m ∷ ns)) (decimal-digits n) ∙ ap (λ (ps : List (List ℕ)). decimal n ∷ ps) (pieces-list m ns)
 
 fit-numbers : (most : ℕ) (ns : List ℕ) → Fit most ns → all (isNumber most) (map decimal ns) ≡ true
 fit-numbers most [] f = refl
 fit-numbers most (n ∷ ns) f = rw (decimal-number most n (f .0)) (fit-numbers most ns (f .1))
 
-decimal-values : (ns : List ℕ) → map value (map decimal ns) ≡ ns
+decimal-values : (ns : List ℕ) → map numberOf (map decimal ns) ≡ ns
 decimal-values [] = refl
 decimal-values (n ∷ ns) = ap₂ (λ (m : ℕ) (ms : List ℕ). m ∷ ms) (decimal-value n) (decimal-values ns)
 
@@ -124,7 +124,7 @@ unfolding numbersOf
 numbers-list line n ns c f =
     let ms = n ∷ ns in
     let l : eqb (length (map decimal ms)) (line .count) ≡ true = eq-eqb (length (map decimal ms)) (line .count) (length-map ms decimal ∙ c) in
-    rw (parts-list n ns, l, fit-numbers (line .most) ms f) (ap numbers (decimal-values ms))
+    rw (pieces-list n ns, l, fit-numbers (line .most) ms f) (ap numbers (decimal-values ms))
 
 -- bytes without a line end before a line end
 abbrev noEnd : List ℕ → Bool
@@ -172,7 +172,7 @@ written-found at line n ns rest w c f a =
     ∙ rw (all-append (λ b. not (eqb b 10)) (line .word) (61 ∷ []), letters-noEnd (line .word) w) (list-noEnd (n ∷ ns)) in
     ap (lineAt at line) (sym (shape (line .word) (list (n ∷ ns)) rest))
     ∙ (ap (outcome at line) (first-line text rest quiet)
-    ∙ (ap (judged at line rest) (form-beginning line (line .word ++ 61 ∷ []) (list (n ∷ ns)) ∙ numbers-list line n ns c f) ∙ rw a))
+    ∙ (ap (judgedLine at line rest) (form-beginning line (line .word ++ 61 ∷ []) (list (n ∷ ns)) ∙ numbers-list line n ns c f) ∙ rw a))
 
 written-some : (at : ℕ) (line : Line) (ns rest : List ℕ) → all isLetter (line .word) ≡ true → 1 ≤ length ns → length ns ≡ line .count → Fit (line .most) ns
     → all (line .allowed) ns ≡ true → lineAt at line (lineOf line ns ++ rest) ≡ found ns rest

@@ -10,16 +10,16 @@ pub data Class : Type 0 where
   digit comma equals lineEnd letter other : Class
 
 -- low, high or a number between them
-abbrev pub between : ℕ → ℕ → ℕ → Bool
-between low high n = leb low n && leb n high
+abbrev pub within : ℕ → ℕ → ℕ → Bool
+within low high n = leb low n && leb n high
 
 -- 0 to 9 in ASCII
 abbrev pub isDigit : ℕ → Bool
-isDigit b = between 48 57 b
+isDigit b = within 48 57 b
 
 -- a to z in ASCII
 abbrev pub isLetter : ℕ → Bool
-isLetter b = between 97 122 b
+isLetter b = within 97 122 b
 
 -- the class of a byte; comma is 44, equals 61, line end 10
 unfoldable pub classOf : ℕ → Class
@@ -48,6 +48,6 @@ widen b [] = (b ∷ []) ∷ []
 widen b (part ∷ more) = (b ∷ part) ∷ more
 
 -- "parted by commas": one part more than there are commas
-abbrev pub parts : List ℕ → List (List ℕ)
-parts [] = [] ∷ []
-parts (b ∷ text) = choose (eqb b 44) ([] ∷ parts text) (widen b (parts text))
+abbrev pub pieces : List ℕ → List (List ℕ)
+pieces [] = [] ∷ []
+pieces (b ∷ text) = choose (eqb b 44) ([] ∷ pieces text) (widen b (pieces text))

@@ -6,7 +6,7 @@ use Prim.Native.Nat.{ℕ, zero, suc, _*_, _≤_, _<_}
 use lib.ListN.{length, take, drop}
 use Rattle.layout.specs.Number.{decimal}
 use Rattle.layout.specs.Line.{Line}
-use Rattle.layout.specs.Answer.{Layout, file, answer, editionLine, fieldLine, varsLine, degreeLine, claimLine, roundLine, endLine}
+use Rattle.layout.specs.Reading.{Layout, file, reading, editionLine, fieldLine, varsLine, degreeLine, claimLine, roundLine, endLine}
 
 -- numbers in decimal digits, parted by commas
 abbrev pub list : List ℕ → List ℕ
@@ -35,17 +35,17 @@ fileOf layout vars degree claim coefficients =
     ++ lineOf (endLine layout vars) (vars ∷ []))))))
 
 -- every number of a list is below p and has at most so many digits
-abbrev pub Elements : ℕ → ℕ → List ℕ → Type 0
-Elements p most [] = Unit {0}
-Elements p most (n ∷ more) = (n < p) × (length (decimal n) ≤ most) × Elements p most more
+abbrev pub Writable : ℕ → ℕ → List ℕ → Type 0
+Writable p most [] = Unit {0}
+Writable p most (n ∷ more) = (n < p) × (length (decimal n) ≤ most) × Writable p most more
 
 -- parts that a file may have: within the limits, elements of the field, of the right number, and no number or file too long
-pub record WellFormed (layout : Layout) (vars degree claim : ℕ) (coefficients : List ℕ) : Type 0 where
+pub record FileParts (layout : Layout) (vars degree claim : ℕ) (coefficients : List ℕ) : Type 0 where
   pub varsAllowed : vars ≤ layout .mostVars
   pub degreeNotNone : 1 ≤ degree
   pub degreeAllowed : degree ≤ layout .mostDegree
-  pub claimElement : Elements (layout .modulus) (layout .laterDigits) (claim ∷ [])
-  pub elements : Elements (layout .modulus) (layout .laterDigits) coefficients
+  pub claimElement : Writable (layout .modulus) (layout .laterDigits) (claim ∷ [])
+  pub elements : Writable (layout .modulus) (layout .laterDigits) coefficients
   pub asMany : length coefficients ≡ vars * layout .perRound degree
   pub editionFits : length (decimal (layout .edition)) ≤ layout .editionDigits
   pub fieldFits : length (decimal (layout .modulus)) ≤ layout .fieldDigits
@@ -59,15 +59,15 @@ abbrev pub Exactly : Type 0
 Exactly =
     (layout : Layout) (vars degree claim : ℕ) (coefficients bytes : List ℕ)
     → ((k : ℕ) → 1 ≤ k → 1 ≤ layout .perRound k)
-    → (answer layout bytes ≡ file vars degree claim coefficients)
-    ↔ ((bytes ≡ fileOf layout vars degree claim coefficients) × WellFormed layout vars degree claim coefficients)
+    → (reading layout bytes ≡ file vars degree claim coefficients)
+    ↔ ((bytes ≡ fileOf layout vars degree claim coefficients) × FileParts layout vars degree claim coefficients)
 
 -- so a list of bytes is the file of one set of well-formed parts only: no two different contents share a file
 abbrev pub OneContent : Type 0
 OneContent =
     (layout : Layout) (v w d e c b : ℕ) (ms ns : List ℕ)
     → ((k : ℕ) → 1 ≤ k → 1 ≤ layout .perRound k)
-    → WellFormed layout v d c ms
-    → WellFormed layout w e b ns
+    → FileParts layout v d c ms
+    → FileParts layout w e b ns
     → fileOf layout v d c ms ≡ fileOf layout w e b ns
     → file v d c ms ≡ file w e b ns

@@ -5,8 +5,8 @@ use Prim.Native.Nat.{ℕ}
 use lib.ListN.{length}
 use lib.Dec.{eqb}
 use Rattle.refusals.specs.First.{choose}
-use Rattle.layout.specs.Bytes.{Cut, ended, unended, firstLine, parts}
-use Rattle.layout.specs.Number.{all, isNumber, value}
+use Rattle.layout.specs.Bytes.{Cut, ended, unended, firstLine, pieces}
+use Rattle.layout.specs.Number.{all, isNumber, numberOf}
 
 -- what a line must be: its word, how many numbers follow, of how many digits at most, and which of them are allowed
 pub record Line : Type 0 where
@@ -23,8 +23,8 @@ pub data Form : Type 0 where
 -- right form after the `=`: so many numbers, parted by commas
 unfoldable pub numbersOf : Line → List ℕ → Form
 numbersOf line text =
-    choose (eqb (length (parts text)) (line .count) && all (isNumber (line .most)) (parts text))
-    (numbers (map value (parts text)))
+    choose (eqb (length (pieces text)) (line .count) && all (isNumber (line .most)) (pieces text))
+    (numbers (map numberOf (pieces text)))
     formless
 
 -- right form where the bytes of a beginning are still to come
@@ -43,13 +43,13 @@ pub data Outcome : Type 0 where
   found : List ℕ → List ℕ → Outcome
 
 -- 10 for a line not of its form, 12 for a number of right form but not allowed
-abbrev pub judged : ℕ → Line → List ℕ → Form → Outcome
-judged at line rest formless = fault 10 at
-judged at line rest (numbers ns) = choose (all (line .allowed) ns) (found ns rest) (fault 12 at)
+abbrev pub judgedLine : ℕ → Line → List ℕ → Form → Outcome
+judgedLine at line rest formless = fault 10 at
+judgedLine at line rest (numbers ns) = choose (all (line .allowed) ns) (found ns rest) (fault 12 at)
 
 -- 11 where nothing is left; "Bytes after the last line end count as a line; where a line is expected there they are refusal 10"
 abbrev pub outcome : ℕ → Line → Cut → Outcome
-outcome at line (ended text rest) = judged at line rest (form line text)
+outcome at line (ended text rest) = judgedLine at line rest (form line text)
 outcome at line (unended []) = fault 11 at
 outcome at line (unended (b ∷ text)) = fault 10 at
 

@@ -4,7 +4,7 @@ use mathlib.Core.List.{List, [], _∷_, _++_}
 use Prim.Native.Nat.{ℕ, zero, suc, _+_, _-_, _*_, _/_, _%_}
 use lib.ListN.{length}
 use lib.Dec.{ltb, eqb}
-use Rattle.layout.specs.Bytes.{isDigit, between}
+use Rattle.layout.specs.Bytes.{isDigit, within}
 
 -- a test that holds of each
 abbrev pub all : {A : Type 0} → (A → Bool) → List A → Bool
@@ -19,7 +19,7 @@ plain (b ∷ next ∷ more) = not (eqb b 48)
 
 -- 1 to `most` decimal digits with no leading 0 unless it is 0 alone
 abbrev pub isNumber : ℕ → List ℕ → Bool
-isNumber most text = all isDigit text && (between 1 most (length text) && plain text)
+isNumber most text = all isDigit text && (within 1 most (length text) && plain text)
 
 -- the value of digits that follow digits of the value v
 abbrev pub valueFrom : ℕ → List ℕ → ℕ
@@ -27,8 +27,8 @@ valueFrom v [] = v
 valueFrom v (b ∷ more) = valueFrom (v * 10 + (b - 48)) more
 
 -- the value of decimal digits
-abbrev pub value : List ℕ → ℕ
-value text = valueFrom 0 text
+abbrev pub numberOf : List ℕ → ℕ
+numberOf text = valueFrom 0 text
 
 -- the last digits of n, as many as there are and at most `most`
 unfoldable pub digits : ℕ → ℕ → List ℕ

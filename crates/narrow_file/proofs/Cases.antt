@@ -2,12 +2,12 @@
 use mathlib.Core.Path.{refl}
 use Rattle.layout.specs.Number.{decimal, digits}
 use Rattle.layout.specs.Line.{lineAt, form, numbersOf}
-use Rattle.layout.specs.Answer.{answer, fromEdition, fromField, fromVars, fromDegree, fromClaim, fromRounds, fromEnd, linesAt}
+use Rattle.layout.specs.Reading.{reading, fromEdition, fromField, fromVars, fromDegree, fromClaim, fromRounds, fromEnd, linesAt}
 use Rattle.layout.specs.File.{fileOf}
 use Rattle.narrow_file.specs.Example.{Cases}
 
 pub cases : Cases
-unfolding answer fromEdition fromField fromVars fromDegree fromClaim fromRounds fromEnd linesAt lineAt form numbersOf fileOf decimal digits
+unfolding reading fromEdition fromField fromVars fromDegree fromClaim fromRounds fromEnd linesAt lineAt form numbersOf fileOf decimal digits
 cases =
     record {
       written = refl;

@@ -9,7 +9,7 @@ use lib.ListN.{length, drop, drop-of-length-le}
 use Rattle.refusals.specs.Limits.{maxVars, maxDegree}
 use Rattle.layout.specs.Line.{Outcome, fault, found, lineAt, before}
 use Rattle.layout.specs.Line as layout
-use Rattle.layout.specs.Answer.{file, refused, linesAt, fromAfter, fromEnd, editionLine, fieldLine, varsLine, degreeLine, claimLine, roundLine, endLine}
+use Rattle.layout.specs.Reading.{file, refusedAt, linesAt, fromAfter, fromEnd, editionLine, fieldLine, varsLine, degreeLine, claimLine, roundLine, endLine}
 use Rattle.file_line.specs.declared.line.Word.the-variants.{Sumproof, Field, Vars, Degree, Claim, Round, End}
 use Rattle.file_line.specs.declared.line.Wanted.{Wanted}
 use Rattle.file_line.specs.declared.line.Line.{Line}
@@ -51,7 +51,7 @@ end-line n vars = allowed-same _ _ _ _ _ (between-exact vars)
 -- after the `end` line: something, or nothing
 module _ (bytes : List ℕ) (at v d c : ℕ) (cs : List ℕ) (r : Line)
     (says : said r ≡ brief (length bytes) (lineAt (v + 6) (lineWanted End (oneNumber (v + 6) v v)) (drop at bytes))) where
-  pub end-some : {last place : ℕ} → r ≡ Found last place → place < length bytes → refused 13 (v + 7) ≡ fromEnd narrow v d c cs (drop at bytes)
+  pub end-some : {last place : ℕ} → r ≡ Found last place → place < length bytes → refusedAt 13 (v + 7) ≡ fromEnd narrow v d c cs (drop at bytes)
   unfolding fromEnd
   end-some {place} e h =
       then-found bytes at (v + 6) (end-line (v + 6) v) r says (λ n rest. fromAfter v d c cs rest) e (rw (drop-here bytes place h))

@@ -9,13 +9,13 @@ use native.Mathlib.Omega.{arith}
 use lib.ListN.{length, length-append, length-map}
 use lib.Dec.{eqb, ltb}
 use borrow.Author.Tests.{eqb-true, ltb-true}
-use Rattle.layout.specs.Bytes.{classOf, isDigit, parts, widen}
-use Rattle.layout.specs.Number.{all, isNumber, value, valueFrom}
+use Rattle.layout.specs.Bytes.{classOf, isDigit, pieces, widen}
+use Rattle.layout.specs.Number.{all, isNumber, numberOf, valueFrom}
 use Rattle.layout.specs.Line.{found, lineAt}
-use Rattle.layout.specs.Answer.{linesAt, roundLine}
+use Rattle.layout.specs.Reading.{linesAt, roundLine}
 use Rattle.layout.proofs.Tests.{both, between-holds}
 use Rattle.layout.proofs.Classes.{class-digit, class-comma}
-use Rattle.layout.proofs.Numbers.{parts-some}
+use Rattle.layout.proofs.Numbers.{pieces-some}
 use Rattle.layout.proofs.Lines.{found-good, lines-induction}
 use Rattle.narrow_field.specs.Narrow.{p}
 use Rattle.narrow_file.specs.Narrow.{narrow}
@@ -56,23 +56,23 @@ first-digit b ps s h =
     let q = both (isDigit b) (all isDigit p) (r .0) in
     (q .0, rw (s .2, q .1, r .1))
 
-collect-parts : (text : List ℕ) (v : ℕ) (rest : List ℕ) → all (all isDigit) (parts text) ≡ true → collect v (text ++ 10 ∷ rest) ≡ overs v (parts text) ++ collect 0 rest
+collect-parts : (text : List ℕ) (v : ℕ) (rest : List ℕ) → all (all isDigit) (pieces text) ≡ true → collect v (text ++ 10 ∷ rest) ≡ overs v (pieces text) ++ collect 0 rest
 collect-parts [] v rest h = unfold classOf in refl
 collect-parts (b ∷ text) v rest h =
-    go (eqb b 44) refl h (parts-some text) (λ w g. collect-parts text w rest g)
+    go (eqb b 44) refl h (pieces-some text) (λ w g. collect-parts text w rest g)
   where
-    go : (t : Bool) → eqb b 44 ≡ t → all (all isDigit) (parts (b ∷ text)) ≡ true → ((p : List ℕ) × (more : List (List ℕ)) × (parts text ≡ p ∷ more))
-        → ((w : ℕ) → all (all isDigit) (parts text) ≡ true → collect w (text ++ 10 ∷ rest) ≡ overs w (parts text) ++ collect 0 rest)
-        → collect v (b ∷ text ++ 10 ∷ rest) ≡ overs v (parts (b ∷ text)) ++ collect 0 rest
+    go : (t : Bool) → eqb b 44 ≡ t → all (all isDigit) (pieces (b ∷ text)) ≡ true → ((p : List ℕ) × (more : List (List ℕ)) × (pieces text ≡ p ∷ more))
+        → ((w : ℕ) → all (all isDigit) (pieces text) ≡ true → collect w (text ++ 10 ∷ rest) ≡ overs w (pieces text) ++ collect 0 rest)
+        → collect v (b ∷ text ++ 10 ∷ rest) ≡ overs v (pieces (b ∷ text)) ++ collect 0 rest
     go true e g s ih =
         let z = eqb-true b 44 e in
-        let g′ : all (all isDigit) (parts text) ≡ true = rw e at g in
-        rw (class-comma b z, e) (ap (λ (ns : List ℕ). v ∷ ns) (ih 0 g′ ∙ ap (λ (ns : List ℕ). ns ++ collect 0 rest) (overs-zero (parts text) s)))
+        let g′ : all (all isDigit) (pieces text) ≡ true = rw e at g in
+        rw (class-comma b z, e) (ap (λ (ns : List ℕ). v ∷ ns) (ih 0 g′ ∙ ap (λ (ns : List ℕ). ns ++ collect 0 rest) (overs-zero (pieces text) s)))
     go false e g s ih =
-        let d = first-digit b (parts text) s (rw e at g) in
+        let d = first-digit b (pieces text) s (rw e at g) in
         let r = between-holds 48 57 b (d .0) in
         rw (class-digit b (r .0) (omega arith), e)
-        (ih ((v * 10 + (b - 48)) % 2 ^ 32) (d .1) ∙ ap (λ (ns : List ℕ). ns ++ collect 0 rest) (sym (overs-widen v b (parts text) s)))
+        (ih ((v * 10 + (b - 48)) % 2 ^ 32) (d .1) ∙ ap (λ (ns : List ℕ). ns ++ collect 0 rest) (sym (overs-widen v b (pieces text) s)))
 
 -- numbers are digits
 numbers-digits : (most : ℕ) (ps : List (List ℕ)) → all (isNumber most) ps ≡ true → all (all isDigit) ps ≡ true
@@ -82,11 +82,11 @@ numbers-digits most (p ∷ ps) h =
     rw (both (all isDigit p) _ (r .0) .0) (numbers-digits most ps (r .1))
 
 -- below 2^32 nothing is lost
-overs-values : (n : ℕ) (ps : List (List ℕ)) → n ≤ 2 ^ 32 → all (λ m. ltb m n) (map value ps) ≡ true → map (over 0) ps ≡ map value ps
+overs-values : (n : ℕ) (ps : List (List ℕ)) → n ≤ 2 ^ 32 → all (λ m. ltb m n) (map numberOf ps) ≡ true → map (over 0) ps ≡ map numberOf ps
 overs-values n [] l h = refl
 overs-values n (p ∷ ps) l h =
-    let r = both (ltb (value p) n) (all (λ m. ltb m n) (map value ps)) h in
-    let u = ltb-true (value p) n (r .0) in
+    let r = both (ltb (numberOf p) n) (all (λ m. ltb m n) (map numberOf ps)) h in
+    let u = ltb-true (numberOf p) n (r .0) in
     ap₂ (λ (m : ℕ) (ms : List ℕ). m ∷ ms) (over-value 0 p ∙ mod-eq-of-lt (omega arith)) (overs-values n ps l (r .1))
 
 -- one round that is found
@@ -95,14 +95,14 @@ round-collected : (n degree : ℕ) (s ns rest : List ℕ) → lineAt n (roundLin
 round-collected n degree s ns rest e =
     let g = found-good n (roundLine narrow degree) s ns rest e in
     let t = g .text in
-    let digits = numbers-digits 10 (parts t) (g .parted .each) in
-    let small : all (λ m. ltb m p) (map value (parts t)) ≡ true = rw (g .parted .values) at (g .allowed) in (
+    let digits = numbers-digits 10 (pieces t) (g .parted .each) in
+    let small : all (λ m. ltb m p) (map numberOf (pieces t)) ≡ true = rw (g .parted .values) at (g .allowed) in (
       ap (collect 0) (g .bytes)
           ∙ (word t rest
           ∙ (collect-parts t 0 rest digits
           ∙ ap (λ (ms : List ℕ). ms ++ collect 0 rest)
-          (overs-zero (parts t) (parts-some t) ∙ (overs-values p (parts t) (omega arith) small ∙ sym (g .parted .values))))),
-      ap length (g .parted .values) ∙ (length-map (parts t) value ∙ g .parted .asMany),
+          (overs-zero (pieces t) (pieces-some t) ∙ (overs-values p (pieces t) (omega arith) small ∙ sym (g .parted .values))))),
+      ap length (g .parted .values) ∙ (length-map (pieces t) numberOf ∙ g .parted .asMany),
     )
   where
     word : (t rest : List ℕ) → collect 0 (((114 ∷ 111 ∷ 117 ∷ 110 ∷ 100 ∷ []) ++ 61 ∷ []) ++ t ++ 10 ∷ rest) ≡ collect 0 (t ++ 10 ∷ rest)

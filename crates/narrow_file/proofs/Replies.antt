@@ -6,7 +6,7 @@ use lib.ListN.{length, take, drop}
 use mathlib.Core.Bool.{true, false}
 use lib.Dec.{ltb}
 use borrow.Author.Tests.{lt-ltb, le-ltb}
-use Rattle.layout.specs.Answer.{file, refused, answer}
+use Rattle.layout.specs.Reading.{file, refusedAt, reading}
 use Rattle.layout.proofs.Answers.{file-count}
 use Rattle.narrow_file.specs.declared.lines.Judged.{Judged}
 use Rattle.narrow_file.specs.declared.lines.Judged.the-variants.{File, Refused}
@@ -17,15 +17,15 @@ use Rattle.narrow_file.specs.Passes.{collect, put, saidJudged}
 abbrev pub Right : List ℕ → List ℕ → Head → List ℕ → Type 0
 Right bytes list reply out = (reply ≡ told (readAnswer bytes (length list))) × (out ≡ after (readAnswer bytes (length list)) list)
 
-module _ (bytes list : List ℕ) (r : Judged) (says : saidJudged bytes r ≡ answer narrow bytes) where
+module _ (bytes list : List ℕ) (r : Judged) (says : saidJudged bytes r ≡ reading narrow bytes) where
   pub reply-refused : {number line : ℕ} → r ≡ Refused number line → Right bytes list (refusal number line) list
   unfolding readAnswer
   reply-refused {number} {line} e =
-      let a : answer narrow bytes ≡ refused number line = sym says ∙ ap (saidJudged bytes) e in
+      let a : reading narrow bytes ≡ refusedAt number line = sym says ∙ ap (saidJudged bytes) e in
       (rw a, rw a)
 
   module _ {v d c at : ℕ} (e : r ≡ File v d c at) (k : ℕ) (f : k ≡ v * (d + 1)) where
-    is-file : answer narrow bytes ≡ file v d c (take (v * (d + 1)) (collect 0 (drop at bytes)))
+    is-file : reading narrow bytes ≡ file v d c (take (v * (d + 1)) (collect 0 (drop at bytes)))
     is-file = sym says ∙ ap (saidJudged bytes) e
 
     pub reply-short : length list < k → Right bytes list (refusal 4 0) list

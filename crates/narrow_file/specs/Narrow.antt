@@ -7,7 +7,7 @@ use lib.Dec.{ltb}
 use Rattle.refusals.specs.First.{choose}
 use Rattle.refusals.specs.Limits.{maxVars, maxDegree, maxFile}
 use Rattle.narrow_field.specs.Narrow.{p}
-use Rattle.layout.specs.Answer.{Layout, Answer, file, refused, answer}
+use Rattle.layout.specs.Reading.{Layout, Reading, file, refusedAt, reading}
 use Rattle.narrow_file.specs.declared.Reply.{Reply}
 use Rattle.narrow_file.specs.declared.Reply.the-variants.{File, Refused}
 
@@ -27,18 +27,18 @@ narrow =
     }
 
 -- "last, refusal 4 for the lent message list": it has fewer than M(K+1) places
-abbrev pub withRoom : ℕ → Answer → Answer
-withRoom places (refused number line) = refused number line
+abbrev pub withRoom : ℕ → Reading → Reading
+withRoom places (refusedAt number line) = refusedAt number line
 withRoom places (file vars degree claim coefficients) =
-    choose (ltb places (vars * (degree + 1))) (refused 4 0) (file vars degree claim coefficients)
+    choose (ltb places (vars * (degree + 1))) (refusedAt 4 0) (file vars degree claim coefficients)
 
 -- the answer for a list of bytes and a lent list of so many places
-unfoldable pub readAnswer : List ℕ → ℕ → Answer
-readAnswer bytes places = withRoom places (answer narrow bytes)
+unfoldable pub readAnswer : List ℕ → ℕ → Reading
+readAnswer bytes places = withRoom places (reading narrow bytes)
 
 -- "Success gives vars, degree, claim, and the coefficients in the first M(K+1) places; the rest is unchanged"; a refusal changes nothing
-abbrev pub after : Answer → List ℕ → List ℕ
-after (refused number line) list = list
+abbrev pub after : Reading → List ℕ → List ℕ
+after (refusedAt number line) list = list
 after (file vars degree claim coefficients) list = coefficients ++ drop (vars * (degree + 1)) list
 
 -- what the reader returns: a file's head, or a refusal's number and line
@@ -46,9 +46,9 @@ pub data Head : Type 0 where
   head : ℕ → ℕ → ℕ → Head
   refusal : ℕ → ℕ → Head
 
-abbrev pub told : Answer → Head
+abbrev pub told : Reading → Head
 told (file vars degree claim coefficients) = head vars degree claim
-told (refused number line) = refusal number line
+told (refusedAt number line) = refusal number line
 
 abbrev pub said : Reply → Head
 said (File vars degree claim) = head vars degree claim

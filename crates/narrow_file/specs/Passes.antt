@@ -6,7 +6,7 @@ use lib.ListN.{length, take, drop}
 use Rattle.refusals.specs.First.{choose}
 use Rattle.layout.specs.Bytes.{Class, digit, comma, equals, lineEnd, letter, other, classOf}
 use Rattle.layout.specs.Line.{Outcome, fault, found}
-use Rattle.layout.specs.Answer.{Answer, file, refused}
+use Rattle.layout.specs.Reading.{Reading, file, refusedAt}
 use Rattle.narrow_file.specs.declared.lines.Judged.{Judged}
 use Rattle.file_line.specs.declared.line.Wanted.{Wanted}
 use Rattle.file_line.specs.declared.line.Line.{Line}
@@ -45,8 +45,8 @@ abbrev pub put : List ℕ → List ℕ → List ℕ
 put ns list = ns ++ drop (length ns) list
 
 -- what the first pass tells: a refusal; or the file's head and where its rounds start
-abbrev pub saidJudged : List ℕ → Judged → Answer
-saidJudged bytes (Refused number line) = refused number line
+abbrev pub saidJudged : List ℕ → Judged → Reading
+saidJudged bytes (Refused number line) = refusedAt number line
 saidJudged bytes (File vars degree claim rounds) = file vars degree claim (take (vars * (degree + 1)) (collect 0 (drop rounds bytes)))
 
 -- an outcome without its numbers

@@ -4,7 +4,7 @@ ghost use Prim.Native.Nat.{_+_, _*_, _≤_};
 ghost use lib.ListN.{length, take, drop};
 ghost use Rattle.refusals.specs.Limits.{maxVars};
 ghost use Rattle.layout.specs.Line.{lineAt};
-ghost use Rattle.layout.specs.Answer.{answer, fromEdition, fromField, fromVars, fromDegree, fromClaim, fromRounds, fromEnd, linesAt, roundLine};
+ghost use Rattle.layout.specs.Reading.{reading, fromEdition, fromField, fromVars, fromDegree, fromClaim, fromRounds, fromEnd, linesAt, roundLine};
 ghost use Rattle.file_line.specs.OneLine.{said, brief, lineWanted};
 ghost use Rattle.narrow_file.specs.Narrow.{narrow};
 ghost use Rattle.narrow_file.specs.Passes.{oneNumber, saidJudged, collect, saidRounds, bare};
@@ -190,7 +190,7 @@ fn from_edition(bytes: &[u8], at: usize) -> Judged
 
 // Judges a whole file.
 pub(crate) fn judge(bytes: &[u8]) -> Judged
-    ensures { λ r. ⌜ saidJudged (now (bytes .entry)) r ≡ answer narrow (now (bytes .entry)) ⌝ }
+    ensures { λ r. ⌜ saidJudged (now (bytes .entry)) r ≡ reading narrow (now (bytes .entry)) ⌝ }
 {
     if refusals::MAX_FILE < bytes.len() {
         return Judged::Refused { number: 9, line: 0 };

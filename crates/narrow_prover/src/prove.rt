@@ -4,7 +4,7 @@ ghost use mathlib.Core.Path.{_≡_};
 ghost use mathlib.Core.List.{_++_, map};
 ghost use Prim.Native.Nat.{_+_, _*_, _^_, _≤_, _<_};
 ghost use lib.ListN.{length, drop, replicate};
-ghost use Rattle.sumcheck.specs.Rounds.{truePolynomials};
+ghost use Rattle.sumcheck.specs.TruePolynomial.{truePolynomials};
 ghost use Rattle.sumcheck.specs.Lent.{parts, join};
 ghost use Rattle.sumcheck.specs.Entries.{proverAnswer, messagesAfter, scratchAfter};
 ghost use Rattle.sumcheck.proofs.FoldedParts.{foldedPart};

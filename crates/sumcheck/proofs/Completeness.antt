@@ -12,11 +12,11 @@ use Rattle.refusals.specs.First.{choose}
 use Rattle.sumcheck.specs.Corners.{corners}
 use Rattle.sumcheck.specs.Extension.{extension}
 use Rattle.sumcheck.specs.Function.{f, trueClaim}
-use Rattle.sumcheck.specs.Rounds.{truePolynomial, polynomialsAfter}
+use Rattle.sumcheck.specs.TruePolynomial.{truePolynomial, polynomialsAfter}
 use Rattle.sumcheck.specs.Protocol.{Rounds, reached, failed, roundsFrom, final, fits}
 use Rattle.sumcheck.specs.Demands.{Complete}
 use Rattle.sumcheck.proofs.Parts.{product-reduced}
-use Rattle.sumcheck.proofs.Rounds.{polynomial-claim, polynomial-sum}
+use Rattle.sumcheck.proofs.TruePolynomial.{polynomial-claim, polynomial-sum}
 
 -- with no variable left the true claim is f at the challenges
 pub claim-last : (n : ℕ) (ts : List (List ℕ)) (r : List ℕ) → trueClaim n ts r 0 ≡ f n ts r

@@ -15,7 +15,7 @@ use Rattle.polynomial.proofs.Lists.{every}
 use Rattle.polynomial.proofs.Value.{value-cons}
 use Rattle.sumcheck.specs.Corners.{corners, index}
 use Rattle.sumcheck.specs.Extension.{factor, weight, extension}
-use Rattle.sumcheck.specs.Rounds.{line}
+use Rattle.sumcheck.specs.TruePolynomial.{line}
 use Rattle.sumcheck.specs.Folding.{between}
 
 -- a value that does not change lies between itself and itself

@@ -2,7 +2,7 @@
 --   Corners       the corners of m variables have m members, 0 or 1, and indices below 2^m, in order
 --   Extension     an extension has degree at most 1 in each variable
 --   Folding       binding the first variable is folding; an extension agrees with its table at the corners
---   Rounds        a true polynomial has the values that the document says, and is the only one; its values at 0 and 1
+--   TruePolynomial  a true polynomial has the values that the document says, and is the only one; its values at 0 and 1
 --   Halves        an extension by halves; the true sum by places
 --   Parts         a lent list as parts of one size
 --   Answers       the entries' answers, one test at a time
@@ -30,7 +30,7 @@
 pub mod Corners
 pub mod Extension
 pub mod Folding
-pub mod Rounds
+pub mod TruePolynomial
 pub mod Completeness
 pub mod Soundness
 pub mod Search

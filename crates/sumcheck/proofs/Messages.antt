@@ -6,9 +6,9 @@ use Prim.Native.Nat.{ℕ, zero, suc, _<_}
 use lib.ListN.{length, drop}
 use Rattle.polynomial.specs.Elements.{Every, Elements}
 use Rattle.polynomial.proofs.Lists.{every-append, every-take, every-drop}
-use Rattle.sumcheck.specs.Rounds.{polynomialsAfter}
+use Rattle.sumcheck.specs.TruePolynomial.{polynomialsAfter}
 use Rattle.sumcheck.specs.Lent.{parts, join}
-use Rattle.sumcheck.proofs.Rounds.{polynomial-length, polynomial-elements}
+use Rattle.sumcheck.proofs.TruePolynomial.{polynomial-length, polynomial-elements}
 
 pub parts-elements : (n count size : ℕ) (xs : List ℕ) → Elements n xs → Every (Elements n) (parts count size xs)
 unfolding parts

@@ -10,7 +10,7 @@ use lib.ListN.{length, take, drop, getD, replicate, length-append, length-take, 
 use lib.Seq.{take-suc, take-all, take-append-le, drop-append-le, drop-at}
 use Rattle.polynomial.specs.Elements.{Every}
 use Rattle.polynomial.proofs.Lists.{every-take}
-use Rattle.sumcheck.specs.Rounds.{truePolynomials}
+use Rattle.sumcheck.specs.TruePolynomial.{truePolynomials}
 use Rattle.sumcheck.specs.Lent.{parts, join}
 use Rattle.sumcheck.proofs.Folded.{folded}
 use Rattle.sumcheck.proofs.FoldedParts.{foldedPart, foldedPart-length, fronts, fronts-more, round-fronts}

@@ -12,7 +12,7 @@ use Rattle.refusals.specs.Limits.{maxVars, maxDegree}
 use Rattle.refusals.specs.First.{Rule, _when_, Answer, refused, given, choose, either, outside, first}
 use Rattle.refusals.proofs.First.{numbered, unnumbered, first-either, outside-append}
 use Rattle.refusals.proofs.Order.{first-turned, first-passed, untested, neither-left, neither-right, refused-by, given-by, kept-by, left-by}
-use Rattle.sumcheck.specs.Rounds.{truePolynomials}
+use Rattle.sumcheck.specs.TruePolynomial.{truePolynomials}
 use Rattle.sumcheck.specs.Lent.{parts, join, tablesOf, tablesLength, messagesLength, badVars, badDegree, notLong, tooShort}
 use Rattle.sumcheck.specs.Entries.{proverRules, proverAnswer, messagesAfter, scratchAfter}
 use Rattle.sumcheck.proofs.Answers.{tablesRules, tables-right, size-right}

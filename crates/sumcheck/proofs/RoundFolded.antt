@@ -12,7 +12,7 @@ use Rattle.polynomial.specs.Polynomial.{plus, times, plusAll, timesAll}
 use Rattle.polynomial.proofs.Lists.{every, every-map, map-same, map-twice}
 use Rattle.sumcheck.specs.Corners.{corners, index}
 use Rattle.sumcheck.specs.Extension.{extension}
-use Rattle.sumcheck.specs.Rounds.{line, truePolynomial}
+use Rattle.sumcheck.specs.TruePolynomial.{line, truePolynomial}
 use Rattle.sumcheck.specs.Folding.{countFrom}
 use Rattle.sumcheck.proofs.Corners.{Corner, corner-all, corners-count}
 use Rattle.sumcheck.proofs.Folding.{extension-corner, low-index, high-index}

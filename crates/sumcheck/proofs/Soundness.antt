@@ -17,10 +17,10 @@ use Rattle.polynomial.specs.Polynomial.{value}
 use Rattle.polynomial.proofs.Roots.{agree-few}
 use Rattle.refusals.specs.First.{choose}
 use Rattle.sumcheck.specs.Function.{f, trueClaim}
-use Rattle.sumcheck.specs.Rounds.{truePolynomial, polynomialsAfter, truePolynomials}
+use Rattle.sumcheck.specs.TruePolynomial.{truePolynomial, polynomialsAfter, truePolynomials}
 use Rattle.sumcheck.specs.Protocol.{Rounds, reached, failed, rounds, roundsFrom, accepted, rejected, final, fits}
 use Rattle.sumcheck.specs.Demands.{WellFormed, polynomialOf, Agree, Lucky, Sound, NoVariables}
-use Rattle.sumcheck.proofs.Rounds.{polynomial-claim, polynomial-sum, polynomial-length, polynomial-elements}
+use Rattle.sumcheck.proofs.TruePolynomial.{polynomial-claim, polynomial-sum, polynomial-length, polynomial-elements}
 use Rattle.sumcheck.proofs.Completeness.{claim-last}
 
 -- the message of round i and the true polynomial differ, and agree at the challenge

@@ -15,7 +15,7 @@ use Rattle.refusals.proofs.First.{choose-true, either-none, outside-append}
 use Rattle.refusals.proofs.Order.{given-by, Untested, untested, untested-none, neither-left, neither-right, outside-none}
 use Rattle.sumcheck.specs.Corners.{corners}
 use Rattle.sumcheck.specs.Function.{f, trueSum}
-use Rattle.sumcheck.specs.Rounds.{truePolynomials}
+use Rattle.sumcheck.specs.TruePolynomial.{truePolynomials}
 use Rattle.sumcheck.specs.Protocol.{accepted, verdict}
 use Rattle.sumcheck.specs.Lent.{parts, join, tablesLength, messagesLength, tablesOf, messagesOf, badVars, badDegree, notLong}
 use Rattle.sumcheck.specs.Entries.{proverRules, messagesAfter, checkerRules, checkerAnswer}

@@ -16,7 +16,7 @@ use Rattle.arithmetic.specs.Prime.{Prime}
 use Rattle.polynomial.specs.Polynomial.{value}
 use Rattle.refusals.specs.First.{refused, given, first}
 use Rattle.sumcheck.specs.Function.{f, trueSum}
-use Rattle.sumcheck.specs.Rounds.{truePolynomials}
+use Rattle.sumcheck.specs.TruePolynomial.{truePolynomials}
 use Rattle.sumcheck.specs.Protocol.{accepted, rejected}
 use Rattle.sumcheck.specs.Lent.{join, messagesLength, tablesOf, messagesOf}
 use Rattle.sumcheck.specs.Entries.{valueRules, proverRules, messagesAfter, checkerRules, checkerAnswer}

@@ -10,7 +10,7 @@ use Rattle.arithmetic.specs.Prime.{Prime}
 use Rattle.polynomial.specs.Elements.{Every, Elements, Distinct}
 use Rattle.polynomial.specs.Polynomial.{value}
 use Rattle.sumcheck.specs.Function.{trueSum}
-use Rattle.sumcheck.specs.Rounds.{truePolynomial, truePolynomials}
+use Rattle.sumcheck.specs.TruePolynomial.{truePolynomial, truePolynomials}
 use Rattle.sumcheck.specs.Protocol.{verdict, accepted}
 
 -- a message for each challenge, each of k + 1 elements: what the checker has seen to before it judges

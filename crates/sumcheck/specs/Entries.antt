@@ -5,7 +5,7 @@ use lib.Dec.{eqb}
 use lib.ListN.{drop, replicate}
 use Rattle.refusals.specs.First.{Rule, _when_, Answer, decide, first, choose, either, outside}
 use Rattle.sumcheck.specs.Function.{f, trueSum}
-use Rattle.sumcheck.specs.Rounds.{truePolynomials}
+use Rattle.sumcheck.specs.TruePolynomial.{truePolynomials}
 use Rattle.sumcheck.specs.Protocol.{Verdict, verdict, Rounds, rounds}
 use Rattle.sumcheck.specs.Lent.{join, tablesLength, messagesLength, tablesOf, messagesOf, badVars, badDegree, notLong, tooShort}
 

@@ -2,7 +2,7 @@
 --   Corners     the corners of {0,1}^m, and the index of a corner
 --   Extension   the extension of a table
 --   Function    f, the product of the extensions; its true sum
---   Rounds      the true polynomials
+--   TruePolynomial  the true polynomials
 --   Protocol    the checker's verdict
 --   Demands     what is demanded: demands 2 and 3 as statements
 --   Lent        what a caller lends, and the tests that turn it down
@@ -15,7 +15,7 @@
 pub mod Corners
 pub mod Extension
 pub mod Function
-pub mod Rounds
+pub mod TruePolynomial
 pub mod Protocol
 pub mod Demands
 pub mod Lent

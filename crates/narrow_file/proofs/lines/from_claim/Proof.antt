@@ -5,7 +5,7 @@ use Rattle.file_line.proofs.Told.{then-refused, then-found, last-high}
 use Rattle.narrow_file.specs.Narrow.{narrow}
 use Rattle.narrow_file.specs.Passes.{oneNumber}
 use Rattle.narrow_field.specs.Narrow.{p}
-use Rattle.layout.specs.Answer.{fromClaim, fromRounds}
+use Rattle.layout.specs.Reading.{fromClaim, fromRounds}
 use Prim.Native.Nat.{_-_}
 use denote.Ref.{now}
 use native.Mathlib.Omega.{arith}

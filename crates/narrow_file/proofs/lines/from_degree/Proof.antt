@@ -5,7 +5,7 @@ use Rattle.file_line.proofs.Told.{then-refused, then-found, last-high}
 use Rattle.narrow_file.specs.Narrow.{narrow}
 use Rattle.narrow_file.specs.Passes.{oneNumber}
 use Rattle.refusals.specs.Limits.{maxDegree}
-use Rattle.layout.specs.Answer.{fromDegree, fromClaim}
+use Rattle.layout.specs.Reading.{fromDegree, fromClaim}
 use denote.Ref.{now}
 use native.Mathlib.Omega.{arith}
 use borrow.Author.Needs.{needs}

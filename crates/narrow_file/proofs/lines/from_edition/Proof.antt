@@ -2,7 +2,7 @@
 use Rattle.narrow_file.proofs.Chain.{edition-line}
 use Rattle.file_line.proofs.Told.{then-refused, then-found}
 use Rattle.narrow_file.specs.Narrow.{narrow}
-use Rattle.layout.specs.Answer.{fromEdition, fromField}
+use Rattle.layout.specs.Reading.{fromEdition, fromField}
 use denote.Ref.{now}
 use borrow.Author.Needs.{needs}
 use Rattle.narrow_file.proofs.lines.from_edition.Statement.{statement}

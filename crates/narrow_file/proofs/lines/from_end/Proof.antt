@@ -1,7 +1,7 @@
 -- `narrow_file::lines::from_end` meets its contract: a refusal is the line's, and after the line bytes are left or not. Assumes nothing.
 use Rattle.narrow_file.proofs.Chain.{end-line, end-some, end-none}
 use Rattle.file_line.proofs.Told.{then-refused}
-use Rattle.layout.specs.Answer.{fromEnd}
+use Rattle.layout.specs.Reading.{fromEnd}
 use Prim.Native.Nat.{_+_}
 use denote.Ref.{now}
 use borrow.Author.Needs.{needs}

@@ -5,7 +5,7 @@ use Rattle.file_line.proofs.Told.{then-refused, then-found, last-high}
 use Rattle.narrow_file.specs.Narrow.{narrow}
 use Rattle.narrow_file.specs.Passes.{oneNumber}
 use Rattle.refusals.specs.Limits.{maxVars}
-use Rattle.layout.specs.Answer.{fromVars, fromDegree}
+use Rattle.layout.specs.Reading.{fromVars, fromDegree}
 use denote.Ref.{now}
 use native.Mathlib.Omega.{arith}
 use borrow.Author.Needs.{needs}

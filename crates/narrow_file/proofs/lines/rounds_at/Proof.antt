@@ -3,7 +3,7 @@
 use Rattle.narrow_file.proofs.Chain.{round-refused, round-found, round-none}
 use Rattle.narrow_file.specs.Passes.{bare}
 use Rattle.narrow_file.specs.Narrow.{narrow}
-use Rattle.layout.specs.Answer.{linesAt, roundLine}
+use Rattle.layout.specs.Reading.{linesAt, roundLine}
 use lib.ListN.{drop}
 use native.Mathlib.Nat.{sub-zero}
 use Prim.Native.Nat.{_+_, _-_, _≤_}

@@ -5,7 +5,7 @@ use Prim.Native.Nat.{ℕ, zero, suc, _+_}
 use lib.ListN.{length}
 use lib.Dec.{leb, ltb, eqb}
 use Rattle.refusals.specs.First.{choose}
-use Rattle.layout.specs.Bytes.{between}
+use Rattle.layout.specs.Bytes.{within}
 use Rattle.layout.specs.Words as words
 use Rattle.layout.specs.Line.{Line, Outcome, fault, found, lineAt, andThen}
 
@@ -26,9 +26,9 @@ pub record Layout : Type 0 where
   pub perRound : ℕ → ℕ
 
 -- a file's vars, degree, claim and coefficients; or a refusal's number and its line, 0 where it has none
-pub data Answer : Type 0 where
-  file : ℕ → ℕ → ℕ → List ℕ → Answer
-  refused : ℕ → ℕ → Answer
+pub data Reading : Type 0 where
+  file : ℕ → ℕ → ℕ → List ℕ → Reading
+  refusedAt : ℕ → ℕ → Reading
 
 -- `sumproof=1`
 abbrev pub editionLine : Layout → Line
@@ -67,7 +67,7 @@ degreeLine layout =
       word = words.degree;
       count = 1;
       most = layout .laterDigits;
-      allowed = λ n. between 1 (layout .mostDegree) n;
+      allowed = λ n. within 1 (layout .mostDegree) n;
     }
 
 -- `claim=C`
@@ -101,9 +101,9 @@ linesAt at zero line bytes = found [] bytes
 linesAt at (suc more) line bytes = andThen (lineAt at line bytes) (λ rest. linesAt (suc at) more line rest)
 
 -- an answer that goes on from what was found, and stops at a refusal
-abbrev pub answerThen : Outcome → (List ℕ → List ℕ → Answer) → Answer
-answerThen (fault number at) next = refused number at
-answerThen (found ns rest) next = next ns rest
+abbrev pub readingThen : Outcome → (List ℕ → List ℕ → Reading) → Reading
+readingThen (fault number at) next = refusedAt number at
+readingThen (found ns rest) next = next ns rest
 
 -- the number of a line that has one
 abbrev pub only : List ℕ → ℕ
@@ -113,43 +113,43 @@ only (n ∷ next ∷ more) = only (next ∷ more)
 
 -- The answer from some line on, for the bytes from there on and the numbers read before. The last line stands first.
 -- after `end`: 13, line M+7, for anything
-abbrev pub fromAfter : ℕ → ℕ → ℕ → List ℕ → List ℕ → Answer
+abbrev pub fromAfter : ℕ → ℕ → ℕ → List ℕ → List ℕ → Reading
 fromAfter vars degree claim coefficients [] = file vars degree claim coefficients
-fromAfter vars degree claim coefficients (b ∷ rest) = refused 13 (vars + 7)
+fromAfter vars degree claim coefficients (b ∷ rest) = refusedAt 13 (vars + 7)
 
 -- line M+6: `end`
-unfoldable pub fromEnd : Layout → ℕ → ℕ → ℕ → List ℕ → List ℕ → Answer
+unfoldable pub fromEnd : Layout → ℕ → ℕ → ℕ → List ℕ → List ℕ → Reading
 fromEnd layout vars degree claim coefficients bytes =
-    answerThen (lineAt (vars + 6) (endLine layout vars) bytes) (λ ns rest. fromAfter vars degree claim coefficients rest)
+    readingThen (lineAt (vars + 6) (endLine layout vars) bytes) (λ ns rest. fromAfter vars degree claim coefficients rest)
 
 -- lines 6 to M+5: the rounds
-unfoldable pub fromRounds : Layout → ℕ → ℕ → ℕ → List ℕ → Answer
+unfoldable pub fromRounds : Layout → ℕ → ℕ → ℕ → List ℕ → Reading
 fromRounds layout vars degree claim bytes =
-    answerThen (linesAt 6 vars (roundLine layout degree) bytes)
+    readingThen (linesAt 6 vars (roundLine layout degree) bytes)
     (λ coefficients rest. fromEnd layout vars degree claim coefficients rest)
 
 -- line 5: the claim
-unfoldable pub fromClaim : Layout → ℕ → ℕ → List ℕ → Answer
+unfoldable pub fromClaim : Layout → ℕ → ℕ → List ℕ → Reading
 fromClaim layout vars degree bytes =
-    answerThen (lineAt 5 (claimLine layout) bytes) (λ ns rest. fromRounds layout vars degree (only ns) rest)
+    readingThen (lineAt 5 (claimLine layout) bytes) (λ ns rest. fromRounds layout vars degree (only ns) rest)
 
 -- line 4: the degree
-unfoldable pub fromDegree : Layout → ℕ → List ℕ → Answer
+unfoldable pub fromDegree : Layout → ℕ → List ℕ → Reading
 fromDegree layout vars bytes =
-    answerThen (lineAt 4 (degreeLine layout) bytes) (λ ns rest. fromClaim layout vars (only ns) rest)
+    readingThen (lineAt 4 (degreeLine layout) bytes) (λ ns rest. fromClaim layout vars (only ns) rest)
 
 -- line 3: vars
-unfoldable pub fromVars : Layout → List ℕ → Answer
-fromVars layout bytes = answerThen (lineAt 3 (varsLine layout) bytes) (λ ns rest. fromDegree layout (only ns) rest)
+unfoldable pub fromVars : Layout → List ℕ → Reading
+fromVars layout bytes = readingThen (lineAt 3 (varsLine layout) bytes) (λ ns rest. fromDegree layout (only ns) rest)
 
 -- line 2: the field
-unfoldable pub fromField : Layout → List ℕ → Answer
-fromField layout bytes = answerThen (lineAt 2 (fieldLine layout) bytes) (λ ns rest. fromVars layout rest)
+unfoldable pub fromField : Layout → List ℕ → Reading
+fromField layout bytes = readingThen (lineAt 2 (fieldLine layout) bytes) (λ ns rest. fromVars layout rest)
 
 -- line 1: the edition
-unfoldable pub fromEdition : Layout → List ℕ → Answer
-fromEdition layout bytes = answerThen (lineAt 1 (editionLine layout) bytes) (λ ns rest. fromField layout rest)
+unfoldable pub fromEdition : Layout → List ℕ → Reading
+fromEdition layout bytes = readingThen (lineAt 1 (editionLine layout) bytes) (λ ns rest. fromField layout rest)
 
 -- the answer for a list of bytes: "9 first, then lines in order"
-unfoldable pub answer : Layout → List ℕ → Answer
-answer layout bytes = choose (ltb (layout .mostBytes) (length bytes)) (refused 9 0) (fromEdition layout bytes)
+unfoldable pub reading : Layout → List ℕ → Reading
+reading layout bytes = choose (ltb (layout .mostBytes) (length bytes)) (refusedAt 9 0) (fromEdition layout bytes)

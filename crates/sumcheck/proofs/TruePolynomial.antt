@@ -17,7 +17,7 @@ use Rattle.polynomial.proofs.Roots.{agree-equal}
 use Rattle.sumcheck.specs.Corners.{corners}
 use Rattle.sumcheck.specs.Extension.{extension}
 use Rattle.sumcheck.specs.Function.{f, trueClaim}
-use Rattle.sumcheck.specs.Rounds.{line, truePolynomial}
+use Rattle.sumcheck.specs.TruePolynomial.{line, truePolynomial}
 use Rattle.sumcheck.specs.Folding.{countFrom}
 use Rattle.sumcheck.proofs.Corners.{corners-some, count-length, count-every, count-distinct}
 use Rattle.sumcheck.proofs.Extension.{line-value}
