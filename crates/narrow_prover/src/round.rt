@@ -4,7 +4,7 @@ ghost use mathlib.Core.List.{_++_, map};
 ghost use Prim.Native.Nat.{_+_, _-_, _*_, _≤_, _<_};
 ghost use lib.ListN.{length, replicate};
 ghost use Rattle.polynomial.proofs.Padded.{total};
-ghost use Rattle.sumcheck.specs.Folding.{countFrom};
+ghost use Rattle.polynomial.specs.Elements.{countFrom};
 ghost use Rattle.sumcheck.specs.Lent.{parts};
 ghost use Rattle.sumcheck.proofs.RoundFolded.{termAt};
 ghost use Rattle.narrow_field.specs.Narrow.{p};

@@ -1,7 +1,7 @@
--- Lists of elements modulo n, their sum and their product.
+-- Lists of elements modulo n, their sum and their product; numbers that follow each other.
 use mathlib.Core.Path.{_≡_}
 use mathlib.Core.List.{List, [], _∷_}
-use Prim.Native.Nat.{ℕ, _%_, _<_}
+use Prim.Native.Nat.{ℕ, zero, suc, _%_, _<_}
 use Rattle.arithmetic.specs.Modulo.{add, mul}
 
 -- P holds of every member of the list
@@ -27,3 +27,8 @@ sum n (x ∷ xs) = add n x (sum n xs)
 abbrev pub product : ℕ → List ℕ → ℕ
 product n [] = 1 % n
 product n (x ∷ xs) = mul n x (product n xs)
+
+-- i, i + 1, .., in all c numbers
+unfoldable pub countFrom : ℕ → ℕ → List ℕ
+countFrom i zero = []
+countFrom i (suc c) = i ∷ countFrom (suc i) c

@@ -5,10 +5,9 @@ use Prim.Native.Nat.{ℕ, zero, suc, _+_, _-_, _*_, _^_, _≤_, _<_}
 use native.Mathlib.Omega.{arith}
 use native.Mathlib.Nat.{add-zero, zero-add, add-suc, suc-add, sub-self, two-pow-succ}
 use lib.ListN.{length, length-append, length-map}
-use Rattle.polynomial.specs.Elements.{Every, Distinct}
+use Rattle.polynomial.specs.Elements.{Every, Distinct, countFrom}
 use Rattle.polynomial.proofs.Lists.{every-map, every-of-map, every-append, map-same, map-twice, map-append}
 use Rattle.sumcheck.specs.Corners.{corners, index}
-use Rattle.sumcheck.specs.Folding.{countFrom}
 
 -- a list of m members, each 0 or 1
 pub record Corner (m : ℕ) (b : List ℕ) : Type 0 where

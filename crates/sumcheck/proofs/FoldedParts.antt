@@ -8,7 +8,8 @@ use native.Mathlib.Omega.{arith}
 use lib.ListN.{length, take, drop, getD, length-append, length-drop, length-map}
 use lib.Seq.{take-at, getD-take}
 use Rattle.polynomial.proofs.Lists.{every, map-same, map-twice}
-use Rattle.sumcheck.specs.Folding.{countFrom, between, fold}
+use Rattle.polynomial.specs.Elements.{countFrom}
+use Rattle.sumcheck.specs.Folding.{between, fold}
 use Rattle.sumcheck.proofs.Corners.{count-length, count-every}
 use Rattle.sumcheck.proofs.Folded.{folded, folded-more}
 use Rattle.sumcheck.proofs.RoundFolded.{lineAt, termAt, roundOf}

@@ -10,11 +10,11 @@ use lib.ListN.{length, getD}
 use Rattle.arithmetic.specs.Modulo.{add, mul, sub}
 use Rattle.arithmetic.proofs.Ring.{at, _⊕_, _⊗_, ⊖_, same}
 use Rattle.arithmetic.proofs.Modulo.{add-zero-mod}
-use Rattle.polynomial.specs.Elements.{Every, sum}
+use Rattle.polynomial.specs.Elements.{Every, sum, countFrom}
 use Rattle.polynomial.proofs.Lists.{every-map, map-same, map-twice, map-append, sum-append, sum-add}
 use Rattle.sumcheck.specs.Corners.{corners, index}
 use Rattle.sumcheck.specs.Extension.{factor, weight, extension}
-use Rattle.sumcheck.specs.Folding.{countFrom, between, fold}
+use Rattle.sumcheck.specs.Folding.{between, fold}
 use Rattle.sumcheck.proofs.Corners.{Corner, corner-all, index-below}
 
 -- place i of a list made by counting

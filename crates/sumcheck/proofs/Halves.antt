@@ -9,12 +9,12 @@ use lib.ListN.{length, getD, take, drop, length-take, length-drop}
 use lib.Seq.{getD-take, getD-drop, take-all}
 use Rattle.arithmetic.specs.Modulo.{mul}
 use Rattle.arithmetic.proofs.Modulo.{mul-mod-left}
-use Rattle.polynomial.specs.Elements.{Every, sum, product}
+use Rattle.polynomial.specs.Elements.{Every, sum, product, countFrom}
 use Rattle.polynomial.proofs.Lists.{every-map, map-same, map-twice}
 use Rattle.sumcheck.specs.Corners.{corners, index}
 use Rattle.sumcheck.specs.Extension.{weight, extension}
 use Rattle.sumcheck.specs.Function.{f, trueSum}
-use Rattle.sumcheck.specs.Folding.{countFrom, between, fold}
+use Rattle.sumcheck.specs.Folding.{between, fold}
 use Rattle.sumcheck.proofs.Corners.{Corner, corner-all, index-below, corners-count}
 use Rattle.sumcheck.proofs.Extension.{extension-between}
 use Rattle.sumcheck.proofs.Folding.{extension-fold, extension-corner, fold-at, between-low, between-high}

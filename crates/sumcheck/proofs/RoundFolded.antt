@@ -10,10 +10,10 @@ use Rattle.arithmetic.proofs.Ring.{at, _⊕_, ⊖_, same}
 use Rattle.arithmetic.proofs.Modulo.{mul-mod-left, add-zero-mod}
 use Rattle.polynomial.specs.Polynomial.{plus, times, plusAll, timesAll}
 use Rattle.polynomial.proofs.Lists.{every, every-map, map-same, map-twice}
+use Rattle.polynomial.specs.Elements.{countFrom}
 use Rattle.sumcheck.specs.Corners.{corners, index}
 use Rattle.sumcheck.specs.Extension.{extension}
 use Rattle.sumcheck.specs.TruePolynomial.{line, truePolynomial}
-use Rattle.sumcheck.specs.Folding.{countFrom}
 use Rattle.sumcheck.proofs.Corners.{Corner, corner-all, corners-count}
 use Rattle.sumcheck.proofs.Folding.{extension-corner, low-index, high-index}
 use Rattle.sumcheck.proofs.Folded.{folded, extension-folded}

@@ -9,12 +9,11 @@ use native.Mathlib.Omega.{arith}
 use lib.ListN.{length, take, drop, getD, replicate, length-map, replicate-append-replicate}
 use lib.Seq.{getD-take, getD-drop, drop-drop, take-at}
 use Rattle.arithmetic.specs.Modulo.{sub}
-use Rattle.polynomial.specs.Elements.{Every, Elements}
+use Rattle.polynomial.specs.Elements.{Every, Elements, countFrom}
 use Rattle.polynomial.specs.Polynomial.{plus, times}
 use Rattle.polynomial.proofs.Lists.{every, every-of-map}
 use Rattle.polynomial.proofs.Shape.{length-times-all, elements-times-all}
 use Rattle.polynomial.proofs.Padded.{lineTimes, lineTimes-some, total, total-plus, length-total, plus-padded}
-use Rattle.sumcheck.specs.Folding.{countFrom}
 use Rattle.sumcheck.specs.Lent.{parts}
 use Rattle.sumcheck.proofs.Corners.{count-cons, count-length}
 use Rattle.sumcheck.proofs.RoundFolded.{lineAt, termAt, roundOf}

@@ -8,7 +8,7 @@ use native.Mathlib.Omega.{arith}
 use lib.ListN.{length, length-map}
 use Rattle.arithmetic.specs.Modulo.{add}
 use Rattle.arithmetic.specs.Prime.{Prime}
-use Rattle.polynomial.specs.Elements.{Elements, sum, product}
+use Rattle.polynomial.specs.Elements.{Elements, sum, product, countFrom}
 use Rattle.polynomial.specs.Polynomial.{value, timesAll}
 use Rattle.polynomial.proofs.Lists.{every, every-of-map, map-same, map-twice, map-append, sum-append}
 use Rattle.polynomial.proofs.Value.{value-plus-all, value-times-all}
@@ -18,7 +18,6 @@ use Rattle.sumcheck.specs.Corners.{corners}
 use Rattle.sumcheck.specs.Extension.{extension}
 use Rattle.sumcheck.specs.Function.{f, trueClaim}
 use Rattle.sumcheck.specs.TruePolynomial.{line, truePolynomial}
-use Rattle.sumcheck.specs.Folding.{countFrom}
 use Rattle.sumcheck.proofs.Corners.{corners-some, count-length, count-every, count-distinct}
 use Rattle.sumcheck.proofs.Extension.{line-value}
 

@@ -8,7 +8,7 @@ use native.Mathlib.Omega.{arith}
 use lib.ListN.{length, take, drop, getD, set, replicate, length-append, length-drop, length-map}
 use lib.Seq.{drop-cons, set-at, take-suc, getD-append-add, getD-drop}
 use Rattle.polynomial.proofs.Lists.{map-append}
-use Rattle.sumcheck.specs.Folding.{countFrom}
+use Rattle.polynomial.specs.Elements.{countFrom}
 use Rattle.sumcheck.proofs.Corners.{count-append, count-length}
 
 -- the first i places hold g of their place, the rest is as it was

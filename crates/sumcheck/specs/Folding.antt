@@ -1,14 +1,10 @@
 -- Halving a table by a challenge: how the prover works, and no part of what the documents say. That the folded table has the extension of the
 -- table with its first variable bound is a law (proofs/Folding).
-use mathlib.Core.List.{List, [], _∷_, map}
-use Prim.Native.Nat.{ℕ, zero, suc, _+_}
+use mathlib.Core.List.{List, map}
+use Prim.Native.Nat.{ℕ, _+_}
 use lib.ListN.{getD}
 use Rattle.arithmetic.specs.Modulo.{add, mul, sub}
-
--- i, i + 1, .., in all c numbers
-unfoldable pub countFrom : ℕ → ℕ → List ℕ
-countFrom i zero = []
-countFrom i (suc c) = i ∷ countFrom (suc i) c
+use Rattle.polynomial.specs.Elements.{countFrom}
 
 -- the point at r on the line from a (at 0) to b (at 1)
 abbrev pub between : ℕ → ℕ → ℕ → ℕ → ℕ

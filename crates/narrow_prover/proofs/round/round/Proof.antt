@@ -6,7 +6,7 @@ use native.Mathlib.Nat.{sub-zero}
 use lib.ListN.{replicate}
 use Rattle.polynomial.specs.Polynomial.{plus}
 use Rattle.polynomial.proofs.Padded.{total}
-use Rattle.sumcheck.specs.Folding.{countFrom}
+use Rattle.polynomial.specs.Elements.{countFrom}
 use Rattle.sumcheck.specs.Lent.{parts}
 use Rattle.sumcheck.proofs.Laid.{parts-count}
 use Rattle.sumcheck.proofs.RoundFolded.{termAt}

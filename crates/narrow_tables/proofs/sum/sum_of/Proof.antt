@@ -4,8 +4,7 @@ use mathlib.Core.List.{List, map}
 use Prim.Native.Nat.{ℕ, _-_, _≤_}
 use native.Mathlib.Nat.{sub-zero}
 use Rattle.arithmetic.specs.Modulo.{add}
-use Rattle.polynomial.specs.Elements.{sum}
-use Rattle.sumcheck.specs.Folding.{countFrom}
+use Rattle.polynomial.specs.Elements.{sum, countFrom}
 use Rattle.sumcheck.specs.Lent.{parts}
 use Rattle.sumcheck.proofs.Corners.{count-cons, count-none}
 use Rattle.sumcheck.proofs.Halves.{column}

@@ -4,8 +4,7 @@ use mathlib.Core.List.{map}
 use Prim.Native.Nat.{ℕ}
 use lib.ListN.{length}
 use Rattle.refusals.specs.First.{refused, given}
-use Rattle.polynomial.specs.Elements.{sum}
-use Rattle.sumcheck.specs.Folding.{countFrom}
+use Rattle.polynomial.specs.Elements.{sum, countFrom}
 use Rattle.sumcheck.specs.Lent.{parts, tablesOf}
 use Rattle.sumcheck.proofs.Answers.{sum-tables, sum-outside, sum-given, placed}
 use Rattle.sumcheck.proofs.Halves.{column, sum-columns}
