@@ -4,6 +4,7 @@
 --   Folding       binding the first variable is folding; an extension agrees with its table at the corners
 --   TruePolynomial  a true polynomial has the values that the document says, and is the only one; its values at 0 and 1
 --   Halves        an extension by halves; the true sum by places
+--   Meaning       the true sum in plain numbers; what the true polynomial is (specs/Meaning)
 --   Parts         a lent list as parts of one size
 --   Answers       the entries' answers, one test at a time
 --   Folded        RoundFolded   tables folded by several challenges, and a true polynomial from them
@@ -21,6 +22,7 @@
 --   Steps         the paths of opening, a step and closing
 --   Course        every sum agrees, or there is a first that fails
 --   Messages      a lent list as messages, and messages as a list
+--   Proving       what the prover leaves (specs/Proving)
 --   Checker       the demands on the checker's own answer (specs/Checker)
 --   TrueClaim     a true claim is accepted by the checker's own answer
 --   Followed      the protocol's own course over inputs of steps
@@ -35,6 +37,7 @@ pub mod Completeness
 pub mod Soundness
 pub mod Search
 pub mod Halves
+pub mod Meaning
 pub mod Parts
 pub mod Answers
 pub mod Folded
@@ -52,6 +55,7 @@ pub mod Prover
 pub mod Steps
 pub mod Course
 pub mod Messages
+pub mod Proving
 pub mod Checker
 pub mod TrueClaim
 pub mod Followed

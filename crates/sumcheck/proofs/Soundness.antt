@@ -19,7 +19,7 @@ use Rattle.refusals.specs.First.{choose}
 use Rattle.sumcheck.specs.Function.{f, trueClaim}
 use Rattle.sumcheck.specs.TruePolynomial.{truePolynomial, polynomialsAfter, truePolynomials}
 use Rattle.sumcheck.specs.Protocol.{Rounds, reached, failed, rounds, roundsFrom, accepted, rejected, final, fits}
-use Rattle.sumcheck.specs.Demands.{WellFormed, polynomialOf, Agree, Lucky, Sound, NoVariables}
+use Rattle.sumcheck.specs.Demands.{WellFormed, polynomialOf, Agree, Lucky, Sound, NeverMore, NoVariables}
 use Rattle.sumcheck.proofs.TruePolynomial.{polynomial-claim, polynomial-sum, polynomial-length, polynomial-elements}
 use Rattle.sumcheck.proofs.Completeness.{claim-last}
 
@@ -135,6 +135,10 @@ unfolding Sound
 sound n h ts claim rs ms form wrong e =
     lucky n h ts rs ms form
     (lucky-from n h ts rs [] ms 1 claim (f n ts rs) wrong (accepted-rounds (length rs) (f n ts rs) (rounds n claim rs ms) e) refl)
+
+pub never-more : NeverMore
+unfolding NeverMore
+never-more n ts rs ms j l xs c u d a = omega (arith, c, l .few xs u d a)
 
 pub no-variables : NoVariables
 unfolding NoVariables

@@ -3,12 +3,12 @@
 use mathlib.Core.Path.{_≡_, refl, sym, ap, ap₂, _∙_}
 use mathlib.Core.Bool.{false}
 use mathlib.Core.List.{List, [], _∷_, _++_, map, append-nil}
-use Prim.Native.Nat.{ℕ, suc, _*_, _^_, _%_, _<_}
+use Prim.Native.Nat.{ℕ, suc, _*_, _%_, _<_}
 use native.Mathlib.Nat.{mod-lt}
 use lib.ListN.{length, drop}
 use lib.Seq.{drop-length}
 use borrow.Author.Tests.{eq-eqb}
-use Rattle.polynomial.specs.Elements.{Every, sum}
+use Rattle.polynomial.specs.Elements.{sum}
 use Rattle.polynomial.proofs.Lists.{sum-reduced}
 use Rattle.refusals.specs.First.{_when_, given, first, either, outside}
 use Rattle.refusals.proofs.First.{choose-true, either-none, outside-append}
@@ -17,14 +17,13 @@ use Rattle.sumcheck.specs.Corners.{corners}
 use Rattle.sumcheck.specs.Function.{f, trueSum}
 use Rattle.sumcheck.specs.TruePolynomial.{truePolynomials}
 use Rattle.sumcheck.specs.Protocol.{accepted, verdict}
-use Rattle.sumcheck.specs.Lent.{parts, join, tablesLength, messagesLength, tablesOf, messagesOf, badVars, badDegree, notLong}
+use Rattle.sumcheck.specs.Lent.{join, tablesLength, messagesLength, tablesOf, messagesOf, badVars, badDegree, notLong}
 use Rattle.sumcheck.specs.Entries.{proverRules, messagesAfter, checkerRules, checkerAnswer}
 use Rattle.sumcheck.specs.Demands.{Complete}
 use Rattle.sumcheck.specs.Checker.{WellLent, AnswerComplete, ProverAccepted}
 use Rattle.sumcheck.proofs.Completeness.{complete}
 use Rattle.sumcheck.proofs.Unrefused.{is-long, long-is, inside-is}
-use Rattle.sumcheck.proofs.Messages.{join-elements, polynomials-count, polynomials-lengths, polynomials-elements}
-use Rattle.sumcheck.proofs.Laid.{length-join, parts-count, parts-join}
+use Rattle.sumcheck.proofs.Messages.{join-elements, polynomials-elements, proof-length, proof-parts}
 
 -- a sum is an element
 sum-below : (n : ℕ) → 0 < n → (xs : List ℕ) → sum n xs % n < n → sum n xs < n
@@ -59,21 +58,11 @@ module _ (n : ℕ) (h : 0 < n) (vars degree : ℕ) (tables challenges : List ℕ
   rounds : length challenges ≡ vars
   rounds = is-long vars challenges (neither-right (notLong (tablesLength vars degree) tables) (notLong vars challenges) (unmet .1 .1 .0))
 
-  -- the true polynomials are as many as the rounds, each of k + 1 numbers
-  many : length ps ≡ vars
-  many = polynomials-count n ts challenges [] ∙ rounds
-
-  sizes : Every (λ (s : List ℕ). length s ≡ suc (length ts)) ps
-  sizes = polynomials-lengths n (suc (length ts)) ts refl challenges []
-
-  degrees : length ts ≡ degree
-  degrees = parts-count degree (2 ^ vars) tables
-
   long : length (join ps) ≡ vars * suc degree
-  long = length-join (suc (length ts)) ps sizes ∙ ap₂ {B = ℕ} (λ (m k : ℕ). m * suc k) many degrees
+  long = proof-length n vars degree tables challenges rounds
 
   again : messagesOf vars degree (join ps) ≡ ps
-  again = sym (ap₂ {B = ℕ} (λ (m k : ℕ). parts m (suc k) (join ps)) many degrees) ∙ (ap (parts (length ps) (suc (length ts))) (sym (append-nil (join ps))) ∙ parts-join (suc (length ts)) ps [] sizes)
+  again = ap (messagesOf vars degree) (sym (append-nil (join ps))) ∙ proof-parts n vars degree tables challenges rounds []
 
   numbers : outside n (trueSum n ts vars ∷ challenges ++ join ps) ≡ false
   numbers =

@@ -1,6 +1,7 @@
 -- What is demanded of the protocol, as statements, for tables, claims, challenges and messages of any number. Their proofs are in proofs/.
 --   Complete     a true claim is accepted, whatever the challenges
 --   Sound        a false claim that is accepted had a lucky round
+--   NeverMore    of k + 1 different elements not all could have made a round lucky
 --   NoVariables  with no variables a false claim is never accepted
 use mathlib.Core.Path.{_≡_}
 use mathlib.Core.List.{List, []}
@@ -46,6 +47,12 @@ unfoldable pub Sound : Type 0
 Sound = (n : ℕ) → Prime n → (tables : List (List ℕ)) (claim : ℕ) (challenges : List ℕ) (messages : List (List ℕ))
     → WellFormed n tables challenges messages → (claim ≡ trueSum n tables (length challenges) → ⊥)
     → verdict n tables claim challenges messages ≡ accepted → (j : ℕ) × Lucky n tables challenges messages j
+
+-- of k + 1 different elements not all could have made a round lucky: at one at least the message and the true polynomial differ
+unfoldable pub NeverMore : Type 0
+NeverMore = (n : ℕ) (tables : List (List ℕ)) (challenges : List ℕ) (messages : List (List ℕ)) (j : ℕ) → Lucky n tables challenges messages j
+    → (xs : List ℕ) → length xs ≡ suc (length tables) → Elements n xs → Distinct xs
+    → Every (Agree n (getD messages j []) (polynomialOf n tables challenges j)) xs → ⊥
 
 -- with no variables a false claim is never accepted
 unfoldable pub NoVariables : Type 0

@@ -9,16 +9,17 @@ use Rattle.sumcheck.specs.TruePolynomial.{truePolynomials}
 use Rattle.sumcheck.specs.Protocol.{Verdict, verdict, Rounds, rounds}
 use Rattle.sumcheck.specs.Lent.{join, tablesLength, messagesLength, tablesOf, messagesOf, badVars, badDegree, notLong, tooShort}
 
--- the true sum of lent tables
-abbrev pub sumAnswer : ℕ → ℕ → ℕ → List ℕ → Answer ℕ
-sumAnswer n vars degree tables =
-    decide
-    (1 when badVars vars
+-- the true sum of lent tables: its refusals, and its answer
+abbrev pub sumRules : ℕ → ℕ → ℕ → List ℕ → List Rule
+sumRules n vars degree tables =
+    1 when badVars vars
     ∷ 2 when badDegree degree
     ∷ 3 when notLong (tablesLength vars degree) tables
     ∷ 5 when outside n tables
-    ∷ [])
-    (trueSum n (tablesOf vars degree tables) vars)
+    ∷ []
+
+abbrev pub sumAnswer : ℕ → ℕ → ℕ → List ℕ → Answer ℕ
+sumAnswer n vars degree tables = decide (sumRules n vars degree tables) (trueSum n (tablesOf vars degree tables) vars)
 
 -- refusals 1, 2 and 3 for tables and a point, by number; 0 if none
 abbrev pub lengthsRefusal : ℕ → ℕ → List ℕ → List ℕ → ℕ

@@ -1,0 +1,143 @@
+-- What follows from the demands at p (specs/Follows). Each proof cites a demand as specs/Demands states it, and not the law behind it, so that a weaker
+-- demand does not prove it. Assumes nothing.
+use mathlib.Core.Path.{_≡_, refl, sym, ap, subst, _∙_}
+use mathlib.Core.Logic.{_↔_}
+use mathlib.Core.Bool.{Bool, true, false}
+use mathlib.Core.List.{List, [], _∷_, append-nil}
+use Prim.Native.Nat.{ℕ, suc, _*_, _^_, _%_, _<_}
+use native.Mathlib.Nat.{mod-eq-of-lt}
+use native.Mathlib.Omega.{arith}
+use lib.Dec.{eqb}
+use lib.ListN.{length, take}
+use lib.Seq.{take-all}
+use borrow.Author.Tests.{eqb-true, eqb-false}
+use Rattle.refusals.specs.First.{Answer, refused, given, first}
+use Rattle.refusals.proofs.Order.{untested, neither-left, neither-right, decided-given}
+use Rattle.polynomial.specs.Elements.{Every, Elements, Distinct}
+use Rattle.sumcheck.specs.Function.{trueSum}
+use Rattle.sumcheck.specs.TruePolynomial.{truePolynomials}
+use Rattle.sumcheck.specs.Meaning.{total, OneTable}
+use Rattle.sumcheck.specs.Protocol.{Verdict, accepted, rejected}
+use Rattle.sumcheck.specs.Lent.{join, tablesLength, messagesLength, tablesOf, messagesOf, notLong, parts}
+use Rattle.sumcheck.specs.Entries.{sumRules, valueRules, messagesAfter, checkerRules, checkerAnswer}
+use Rattle.sumcheck.proofs.Meaning.{one-table}
+use Rattle.sumcheck.proofs.Proving.{proof-round}
+use Rattle.sumcheck.proofs.Completeness.{claim-last}
+use Rattle.sumcheck.proofs.Unrefused.{is-long}
+use Rattle.layout.specs.Reading.{file, reading}
+use Rattle.layout.specs.File.{fileOf, FileParts}
+use Rattle.narrow_field.specs.Narrow.{p}
+use Rattle.narrow_file.specs.Narrow.{narrow}
+use Rattle.demands.specs.Demands.{messageAt, polynomialAt, RefusesFirstAtP, AcceptsExactlyAtP, RejectsFirstAtP, ReadsExactlyAtP}
+use Rattle.demands.specs.Demands.{CompleteAtP, ProverAcceptedAtP, LuckyAtP, SoundAtP, CertainAtP}
+use Rattle.demands.specs.Follows.{Reason, EveryAnswerAtP, SettledAtP, Unlucky, BelievedAtP, NeverMoreAtP, LedgerAtP, HonestExactlyAtP, EndToEndAtP}
+use Rattle.demands.specs.Follows.{NoneExactlyAtP, ReadBackAtP, OneContentAtP}
+use Rattle.demands.proofs.Demands.{refuses-first-at-p, accepts-exactly-at-p, rejects-first-at-p, reads-exactly-at-p}
+use Rattle.demands.proofs.Demands.{complete-at-p, prover-accepted-at-p, sound-at-p, certain-at-p}
+
+pub every-answer-at-p : EveryAnswerAtP
+unfolding EveryAnswerAtP RefusesFirstAtP AcceptsExactlyAtP RejectsFirstAtP
+every-answer-at-p vars degree tables claim challenges messages (refused number) = refuses-first-at-p vars degree tables claim challenges messages number
+every-answer-at-p vars degree tables claim challenges messages (given accepted) = accepts-exactly-at-p vars degree tables claim challenges messages
+every-answer-at-p vars degree tables claim challenges messages (given (rejected round)) = rejects-first-at-p vars degree tables claim challenges messages round
+
+pub settled-at-p : SettledAtP
+unfolding SettledAtP EveryAnswerAtP
+settled-at-p vars degree tables claim challenges messages = (
+  checkerAnswer p vars degree tables claim challenges messages,
+  every-answer-at-p vars degree tables claim challenges messages (checkerAnswer p vars degree tables claim challenges messages) .0 refl,
+  λ (b : Answer Verdict) (r : Reason vars degree tables claim challenges messages b). sym (every-answer-at-p vars degree tables claim challenges messages b .1 r),
+)
+
+-- numbers that cannot differ are equal
+cannot-differ : (x y : ℕ) → ((x ≡ y → ⊥) → ⊥) → x ≡ y
+cannot-differ x y h = go (eqb x y) refl
+  where
+    go : (t : Bool) → eqb x y ≡ t → x ≡ y
+    go true e = eqb-true x y e
+    go false e = absurd (h (eqb-false x y e))
+
+pub believed-at-p : BelievedAtP
+unfolding BelievedAtP SoundAtP
+believed-at-p vars degree tables claim challenges messages a none =
+    cannot-differ claim (trueSum p (tablesOf vars degree tables) vars)
+    (λ (wrong : claim ≡ trueSum p (tablesOf vars degree tables) vars → ⊥).
+    let l = sound-at-p vars degree tables claim challenges messages a wrong in
+    none (l .0) (l .1 .round) (l .1 .differs) (l .1 .agrees))
+
+pub never-more-at-p : NeverMoreAtP
+unfolding NeverMoreAtP
+never-more-at-p vars degree tables challenges messages j l xs c u d a = omega (arith, c, l .few xs u d a)
+
+-- the one table that was lent is the whole list
+only-table : (vars : ℕ) (table : List ℕ) → length table ≡ 2 ^ vars → tablesOf vars 1 table ≡ table ∷ []
+unfolding parts
+only-table vars table e = ap (λ (t : List ℕ). t ∷ []) (take-all (2 ^ vars) table (omega (arith, e)))
+
+-- where the checker refuses nothing, the tables have their length
+tables-long : (vars degree : ℕ) (tables : List ℕ) (claim : ℕ) (challenges messages : List ℕ)
+    → first (checkerRules p vars degree tables claim challenges messages) ≡ 0 → length tables ≡ degree * 2 ^ vars
+tables-long vars degree tables claim challenges messages z =
+    let u = untested (checkerRules p vars degree tables claim challenges messages) refl refl z in
+    is-long (tablesLength vars degree) tables (neither-left (notLong (tablesLength vars degree) tables) _ (u .1 .1 .0))
+
+pub ledger-at-p : LedgerAtP
+unfolding LedgerAtP BelievedAtP AcceptsExactlyAtP OneTable
+ledger-at-p vars table claim challenges messages a none =
+    let z = accepts-exactly-at-p vars 1 table claim challenges messages .0 a .0 in
+    let e : length table ≡ 2 ^ vars = omega (arith, tables-long vars 1 table claim challenges messages z) in
+    let whole : claim ≡ total table % p =
+    believed-at-p vars 1 table claim challenges messages a none
+    ∙ (ap (λ (ts : List (List ℕ)). trueSum p ts vars) (only-table vars table e) ∙ one-table p (omega arith) table vars e) in
+    (whole, λ (l : total table < p). whole ∙ mod-eq-of-lt l)
+
+-- a round's part of the true polynomials is no message that differs
+honest-unlucky : (vars degree : ℕ) (tables challenges : List ℕ) → length challenges ≡ vars
+    → Unlucky vars degree tables challenges (join (truePolynomials p (tablesOf vars degree tables) challenges))
+honest-unlucky vars degree tables challenges e j l differs agrees =
+    differs
+    (ap (λ (xs : List ℕ). messageAt vars degree xs j) (sym (append-nil (join (truePolynomials p (tablesOf vars degree tables) challenges))))
+    ∙ proof-round p vars degree tables challenges e [] j l)
+
+pub honest-exactly-at-p : HonestExactlyAtP
+unfolding HonestExactlyAtP CompleteAtP BelievedAtP
+honest-exactly-at-p vars degree tables claim challenges z =
+    let u = untested (valueRules p vars degree tables challenges) refl refl z in
+    let e = is-long vars challenges (neither-right (notLong (tablesLength vars degree) tables) (notLong vars challenges) (u .1 .1 .0)) in
+    let proof = join (truePolynomials p (tablesOf vars degree tables) challenges) in (
+      λ (a : checkerAnswer p vars degree tables claim challenges proof ≡ given accepted).
+          believed-at-p vars degree tables claim challenges proof a (honest-unlucky vars degree tables challenges e),
+      λ (t : claim ≡ trueSum p (tablesOf vars degree tables) vars).
+          ap (λ (c : ℕ). checkerAnswer p vars degree tables c challenges proof) t ∙ complete-at-p vars degree tables challenges z,
+    )
+
+pub end-to-end-at-p : EndToEndAtP
+unfolding EndToEndAtP ProverAcceptedAtP
+end-to-end-at-p vars degree tables challenges messages scratch c s h e =
+    let t = decided-given (sumRules p vars degree tables) refl (trueSum p (tablesOf vars degree tables) vars) c s .1 in
+    ap (λ (x : ℕ). checkerAnswer p vars degree tables x challenges (messagesAfter p vars degree tables challenges messages scratch)) (sym t)
+    ∙ prover-accepted-at-p vars degree tables challenges messages scratch h e
+
+-- with no variables the true sum is f at no point
+pub none-exactly-at-p : NoneExactlyAtP
+unfolding NoneExactlyAtP AcceptsExactlyAtP CertainAtP
+none-exactly-at-p degree tables claim = (
+  λ (a : checkerAnswer p 0 degree tables claim [] [] ≡ given accepted).
+      (accepts-exactly-at-p 0 degree tables claim [] [] .0 a .0, certain-at-p degree tables claim [] [] a),
+  λ (t : (first (checkerRules p 0 degree tables claim [] []) ≡ 0) × (claim ≡ trueSum p (tablesOf 0 degree tables) 0)).
+      accepts-exactly-at-p 0 degree tables claim [] [] .1
+      (t .0, (λ (j : ℕ) (l : j < 0). absurd (omega arith), t .1 ∙ claim-last p (tablesOf 0 degree tables) [])),
+)
+
+pub read-back-at-p : ReadBackAtP
+unfolding ReadBackAtP ReadsExactlyAtP
+read-back-at-p vars degree claim messages = (
+  λ (bytes : List ℕ) (e : reading narrow bytes ≡ file vars degree claim messages). sym (reads-exactly-at-p vars degree claim messages bytes .0 e .0),
+  λ (w : FileParts narrow vars degree claim messages).
+      reads-exactly-at-p vars degree claim messages (fileOf narrow vars degree claim messages) .1 (refl, w),
+)
+
+pub one-content-at-p : OneContentAtP
+unfolding OneContentAtP ReadBackAtP
+one-content-at-p v w d e c b ms ns x y same =
+    sym (read-back-at-p v d c ms .1 x) ∙ (ap (reading narrow) same ∙ read-back-at-p w e b ns .1 y)
