@@ -99,8 +99,7 @@ pub fn add(to: &mut Inputs) {
 #[cfg(test)]
 mod tests {
     use super::*;
-    use crate::answers::Verdict;
-    use crate::checker::check;
+    use crate::checker::{check, Verdict};
 
     fn verdict(p: &Proof) -> Result<Verdict, u64> {
         let tables = p.tables.members();
