@@ -17,6 +17,7 @@ HERE = pathlib.Path(__file__).resolve().parent
 SUMPROOF = shlex.split(os.environ["SUMPROOF"])
 LEDGER = shlex.split(os.environ["LEDGER"])
 P = 2147483647
+MODULO = f" modulo {P}"
 NOISE = [b"", b"0", b"9", b"\n", b",", b" ", b"=", b"-", b"#", b"\xff", b"99999999999", b"\0"]
 PROOF = (
     "sumproof=1\nfield=2147483647\nvars=2\ndegree=2\nclaim=6\n"
@@ -261,7 +262,7 @@ class ExampleInC(Command):
     def test_ledger(self):
         self.good("prove --table b.txt --challenges c.txt --out q")
         self.write("b.txt", "3 4 1 2\n")
-        self.assertEqual(self.ledger("q b.txt c.txt", 0), "accepted: total 10\n")
+        self.assertEqual(self.ledger("q b.txt c.txt", 0), f"accepted: total 10{MODULO}\n")
         self.write("other.txt", "3 4 1 3\n")
         self.assertEqual(self.ledger("q other.txt c.txt", 1), "rejected in round 2\n")
         self.write("short.txt", "3 4 1")
