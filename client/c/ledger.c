@@ -1,4 +1,5 @@
-/* An example client: checks the proof of a ledger's total.
+/* An example client: checks the proof of a ledger's total modulo 2147483647.
+ * sendurafi.h says when that is the total itself.
  *
  *   ledger PROOF LEDGER CHALLENGES
  *
@@ -52,5 +53,5 @@ int main(int argc, char **argv) {
     if (verdict.kind == SENDURAFI_REFUSED) return refused("check", verdict.number, verdict.line);
     if (verdict.kind == SENDURAFI_REJECTED)
         return printf("rejected in round %" PRIu32 "\n", verdict.number), 1;
-    return printf("accepted: total %" PRIu32 "\n", proof.claim), 0;
+    return printf("accepted: total %" PRIu32 " modulo %u\n", proof.claim, SENDURAFI_P), 0;
 }

@@ -90,6 +90,9 @@ static void test_tables(void) {
     EXPECT(given(sendurafi_true_sum(2, 2, tables, 8), 6));
     EXPECT(given(sendurafi_true_sum(2, 1, tables + 4, 4), 10));
     EXPECT(given(sendurafi_true_sum(0, 3, LIST(5, 7, 2), 3), 70));
+    /* A remainder; and 3 - 10, which is -7. */
+    EXPECT(given(sendurafi_true_sum(1, 1, LIST(P - 1, 5), 2), 4));
+    EXPECT(given(sendurafi_true_sum(1, 1, LIST(3, sendurafi_negative(10).value), 2), P - 7));
     EXPECT(refused(sendurafi_true_sum(17, 4, tables, 8), 1));
     EXPECT(refused(sendurafi_true_sum(2, 4, tables, 8), 2));
     EXPECT(refused(sendurafi_true_sum(2, 0, tables, 8), 2));

@@ -1,9 +1,21 @@
-/* Sendurafi: sums over large tables, proved by sumcheck and checked.
+/* Sendurafi: sums over large tables modulo p, proved by sumcheck and checked.
  *
  * A server proves a total with sendurafi_prove. A client reads the proof file
  * with sendurafi_read and checks it with sendurafi_check, or round by round
  * with sendurafi_open, sendurafi_step and sendurafi_close. Choosing the
  * challenges, each after its message is seen, is the caller's duty.
+ *
+ * Every total is modulo p = 2147483647: what is claimed, proved and checked is
+ * the sum's remainder. That is the sum itself if the sum is below p, which is
+ * sure if 2^m times the greatest number of the table is below p; with k tables,
+ * 2^m times the product of their greatest numbers. Otherwise only the remainder
+ * is proved.
+ *
+ * A negative balance -b, with 0 < b < p, is written as p - b, which is what
+ * sendurafi_negative gives. To read the total as a signed number one must know
+ * bounds: if each amount that is added up (with k tables, each product) lies
+ * between -B and B, and 2^m * B is below p / 2, then a total above p / 2 stands
+ * for total - p, and any other for itself.
  *
  * Acceptance does not mean that the sum is true: a false sum is accepted when
  * a challenge is a lucky one. In each round at most `degree` of the
@@ -15,6 +27,8 @@
  *   degree      the number of tables k, 1 to 3
  *   tables      k tables of 2^m elements, one after the other; in each the
  *               value at (x1, .., xm) stands at x1*2^(m-1) + .. + xm
+ *   claim       an element: what f, summed over all corners, is said to be
+ *               modulo p
  *   challenges  m elements
  *   messages    m rounds of k+1 coefficients, lowest power first
  *
@@ -39,7 +53,7 @@
 extern "C" {
 #endif
 
-#define SENDURAFI_P 2147483647u
+#define SENDURAFI_P 2147483647u /* p */
 #define SENDURAFI_MAX_VARS 16u
 #define SENDURAFI_MAX_DEGREE 3u
 #define SENDURAFI_MAX_FILE_BYTES 4096u
@@ -86,7 +100,7 @@ typedef struct {
     uint32_t vars;
     uint32_t degree;
     uint32_t taken;    /* rounds taken */
-    uint32_t claim;    /* the running claim */
+    uint32_t claim;    /* the running claim, modulo p */
     uint32_t rejected; /* 0: no mark; any other number: rejected. Handed back as 0 or 1. */
 } sendurafi_state;
 
@@ -102,7 +116,7 @@ typedef struct {
     uint32_t line;
     uint32_t vars;
     uint32_t degree;
-    uint32_t claim;
+    uint32_t claim; /* modulo p */
 } sendurafi_file;
 
 /* A part of the caller's own list: the index of its first place, and its length. */
@@ -131,23 +145,23 @@ sendurafi_answer sendurafi_power(uint32_t a, uint64_t e);
 /* The element that times a is 1. Refusals 5, 6. */
 sendurafi_answer sendurafi_inverse(uint32_t a);
 
-/* ---- Tables. f is the product of the tables' extensions. ---- */
+/* ---- Tables. f is the product of the tables' extensions, modulo p. ---- */
 
-/* f summed over all corners, in `value`. Refusals 1, 2, 3, 5. */
+/* f summed over all corners, modulo p, in `value`. Refusals 1, 2, 3, 5. */
 sendurafi_answer sendurafi_true_sum(uint32_t vars, uint32_t degree, const uint32_t *tables,
                                     size_t tables_len);
 
-/* f at a point of m elements, in `value`. Refusals 1, 2, 3, 5. */
+/* f at a point of m elements, modulo p, in `value`. Refusals 1, 2, 3, 5. */
 sendurafi_answer sendurafi_value_at(uint32_t vars, uint32_t degree, const uint32_t *tables,
                                     size_t tables_len, const uint32_t *point, size_t point_len);
 
 /* ---- The prover ---- */
 
-/* Writes the true polynomials of all rounds to the first
- * SENDURAFI_MESSAGE_LEN(vars, degree) places of messages. Works in scratch,
- * whose first SENDURAFI_TABLES_LEN(vars, degree) places are 0 afterwards. Both
- * may be longer; what is behind stays unchanged. Round j does not depend on
- * challenge j or later ones. Refusals 1, 2, 3, 4, 5. */
+/* Proves the sum of f over all corners, modulo p. Writes the true polynomials of
+ * all rounds to the first SENDURAFI_MESSAGE_LEN(vars, degree) places of
+ * messages. Works in scratch, whose first SENDURAFI_TABLES_LEN(vars, degree)
+ * places are 0 afterwards. Both may be longer; what is behind stays unchanged.
+ * Round j does not depend on challenge j or later ones. Refusals 1, 2, 3, 4, 5. */
 sendurafi_answer sendurafi_prove(uint32_t vars, uint32_t degree, const uint32_t *tables,
                                  size_t tables_len, const uint32_t *challenges,
                                  size_t challenges_len, uint32_t *messages, size_t messages_len,
@@ -155,24 +169,25 @@ sendurafi_answer sendurafi_prove(uint32_t vars, uint32_t degree, const uint32_t 
 
 /* ---- The checker in one call ---- */
 
-/* Accepted, or rejected with the first round whose sum fails; a final check
- * that fails is rejected with round m. Refusals 1, 2, 3, 5. */
+/* Checks that f, summed over all corners, is `claim` modulo p. Accepted, or
+ * rejected with the first round whose sum fails; a final check that fails is
+ * rejected with round m. Refusals 1, 2, 3, 5. */
 sendurafi_answer sendurafi_check(uint32_t vars, uint32_t degree, const uint32_t *tables,
                                  size_t tables_len, uint32_t claim, const uint32_t *challenges,
                                  size_t challenges_len, const uint32_t *messages,
                                  size_t messages_len);
 
-/* The rounds without the final check: `value` is what f must be at the
- * challenges, and the caller compares; or rejected with the round.
- * Refusals 1, 2, 3, 5. */
+/* The rounds without the final check, for a claim modulo p: `value` is what f
+ * must be at the challenges, and the caller compares; or rejected with the
+ * round. Refusals 1, 2, 3, 5. */
 sendurafi_answer sendurafi_check_rounds(uint32_t vars, uint32_t degree, uint32_t claim,
                                         const uint32_t *challenges, size_t challenges_len,
                                         const uint32_t *messages, size_t messages_len);
 
 /* ---- The checker in steps ---- */
 
-/* The first state, before any round. Refused, every use of the state that
- * comes back is refused too. Refusals 1, 2, 5. */
+/* The first state, before any round, for a claim modulo p. Refused, every use of
+ * the state that comes back is refused too. Refusals 1, 2, 5. */
 sendurafi_stepped sendurafi_open(uint32_t vars, uint32_t degree, uint32_t claim);
 
 /* One round: a message of SENDURAFI_ROUND_LEN(degree) coefficients and its
@@ -200,9 +215,9 @@ uint32_t sendurafi_round_part_refusal(uint32_t vars, uint32_t degree, const uint
 
 /* ---- Proof file ---- */
 
-/* Reads a proof file. Writes its coefficients to the first
- * SENDURAFI_MESSAGE_LEN(vars, degree) places of messages, vars and degree
- * being the file's; what is behind stays unchanged. A list of
+/* Reads a proof file, which claims a sum modulo p. Writes its coefficients to
+ * the first SENDURAFI_MESSAGE_LEN(vars, degree) places of messages, vars and
+ * degree being the file's; what is behind stays unchanged. A list of
  * SENDURAFI_MAX_MESSAGE_LEN places is always long enough. Refusal 9, then the
  * lines in order, in each 11, 10, 12, after the last line 13, at the end 4. */
 sendurafi_file sendurafi_read(const uint8_t *bytes, size_t bytes_len, uint32_t *messages,

@@ -17,11 +17,21 @@ HERE = pathlib.Path(__file__).resolve().parent
 SUMPROOF = shlex.split(os.environ["SUMPROOF"])
 LEDGER = shlex.split(os.environ["LEDGER"])
 P = 2147483647
+MODULO = f" modulo {P}"
 NOISE = [b"", b"0", b"9", b"\n", b",", b" ", b"=", b"-", b"#", b"\xff", b"99999999999", b"\0"]
 PROOF = (
     "sumproof=1\nfield=2147483647\nvars=2\ndegree=2\nclaim=6\n"
     "round=4,0,2147483645\nround=2147483629,30,2147483639\nend=2\n"
 )
+SHOWN = """\
+  vars    2
+  degree  2
+  claim   6 modulo 2147483647
+
+  round  s(0) + s(1)           1   X         X^2
+      1            6           4   0  2147483645
+      2   2147483633  2147483629  30  2147483639
+"""
 
 
 class Command(unittest.TestCase):
@@ -64,54 +74,61 @@ class Command(unittest.TestCase):
 class Working(Command):
     def test_prove(self):
         said = self.good("prove --table a.txt b.txt --challenges c.txt --out q")
-        self.assertEqual(said, "claim 6, 2 rounds, 110 bytes in q\n")
+        self.assertEqual(said, f"claim 6{MODULO}, 2 rounds, 110 bytes in q\n")
         self.assertEqual(self.path("q").read_text(), PROOF)
 
     def test_check(self):
         said = self.good("check p --table a.txt --table b.txt --challenges c.txt")
-        self.assertEqual(said, "accepted: the claim 6 passed 2 rounds and the final check\n")
+        self.assertEqual(said, f"accepted: the claim 6{MODULO} passed 2 rounds and the final check\n")
 
     def test_check_rejects_a_sum(self):
         self.write("p", PROOF.replace("claim=6", "claim=7"))
         said = self.good("check p --table a.txt b.txt --challenges c.txt", 1)
-        self.assertEqual(said, "rejected in round 1: its sum is not the running claim (claim 7)\n")
+        reason = "its sum is not the running claim"
+        self.assertEqual(said, f"rejected in round 1: {reason} (claim 7{MODULO})\n")
 
     def test_check_rejects_the_last_value(self):
         self.write("a.txt", "0 1 2 1")
         said = self.good("check p --table a.txt b.txt --challenges c.txt", 1)
-        self.assertIn("rejected in round 2: the sums hold in 2 rounds, but the final check", said)
+        reason = "the sums hold in 2 rounds, but the final check fails"
+        self.assertEqual(said, f"rejected in round 2: {reason} (claim 6{MODULO})\n")
 
     def test_show(self):
-        said = self.good("show p").split()
-        for word in ["2147483645", "2147483639", "2147483633", "claim", "6"]:
-            self.assertIn(word, said)
+        self.assertEqual(self.good("show p"), SHOWN)
 
     def test_sum(self):
-        self.assertEqual(self.good("sum --table a.txt b.txt"), "6\n")
-        self.assertEqual(self.good("sum --table b.txt"), "10\n")
-        self.assertEqual(self.good("sum --table b.txt b.txt b.txt"), "100\n")
+        self.assertEqual(self.good("sum --table a.txt b.txt"), f"6{MODULO}\n")
+        self.assertEqual(self.good("sum --table b.txt"), f"10{MODULO}\n")
+        self.assertEqual(self.good("sum --table b.txt b.txt b.txt"), f"100{MODULO}\n")
+
+    def test_sum_is_a_remainder(self):
+        self.write("high.txt", f"{P - 1} 5")
+        self.assertEqual(self.good("sum --table high.txt"), f"4{MODULO}\n")
+        # 3 - 10 is -7.
+        self.write("debt.txt", f"3 {P - 10}")
+        self.assertEqual(self.good("sum --table debt.txt"), f"{P - 7}{MODULO}\n")
 
     def test_one_number(self):
         self.write("one.txt", "35")
         self.write("none.txt", "")
         self.good("prove --table one.txt --challenges none.txt --out q")
         self.good("check q --table one.txt --challenges none.txt")
-        self.assertIn("claim   35", self.good("show q"))
+        self.assertEqual(self.good("show q"), f"  vars    0\n  degree  1\n  claim   35{MODULO}\n")
 
     def test_binary(self):
         self.write("b.u32", struct.pack("<4I", 3, 4, 1, 2))
         self.write("plain", struct.pack("<4I", 3, 4, 1, 2))
-        self.assertEqual(self.good("sum --table a.txt b.u32"), "6\n")
-        self.assertEqual(self.good("sum --binary --table plain"), "10\n")
+        self.assertEqual(self.good("sum --table a.txt b.u32"), f"6{MODULO}\n")
+        self.assertEqual(self.good("sum --binary --table plain"), f"10{MODULO}\n")
 
     def test_pad(self):
         self.write("five.txt", "1 2 3 4 5")
-        self.assertEqual(self.good("sum --pad --table five.txt"), "15\n")
-        self.assertEqual(self.good("sum --pad --table five.txt b.txt"), "22\n")
+        self.assertEqual(self.good("sum --pad --table five.txt"), f"15{MODULO}\n")
+        self.assertEqual(self.good("sum --pad --table five.txt b.txt"), f"22{MODULO}\n")
 
     def test_progress_for_long_work(self):
         self.write("long.txt", "\n".join(str(x) for x in range(1 << 14)))
-        total = sum(range(1 << 14))
+        total = f"{sum(range(1 << 14))}{MODULO}"
         out, err = self.run_words(SUMPROOF + "sum --table long.txt".split(), 0)
         self.assertEqual(out, f"{total}\n")
         self.assertIn("16384 numbers", err)
@@ -121,6 +138,8 @@ class Working(Command):
         said = self.good("--help")
         for word in ["check", "prove", "show", "sum", "demo", "Examples", "Exit status"]:
             self.assertIn(word, said)
+        for rule in ["modulo p = 2147483647", "only\nthe remainder is proved", "written as p - b"]:
+            self.assertIn(rule, said)
         for words in ["help", "-h", "check --help", "sum --table x --help"]:
             self.assertEqual(self.good(words), said)
 
@@ -261,7 +280,7 @@ class ExampleInC(Command):
     def test_ledger(self):
         self.good("prove --table b.txt --challenges c.txt --out q")
         self.write("b.txt", "3 4 1 2\n")
-        self.assertEqual(self.ledger("q b.txt c.txt", 0), "accepted: total 10\n")
+        self.assertEqual(self.ledger("q b.txt c.txt", 0), f"accepted: total 10{MODULO}\n")
         self.write("other.txt", "3 4 1 3\n")
         self.assertEqual(self.ledger("q other.txt c.txt", 1), "rejected in round 2\n")
         self.write("short.txt", "3 4 1")

@@ -1,30 +1,9 @@
-//! The answers, and the numbers that stand for each of them in an answer
-//! line. FORMAT.md says the same in words.
+//! The numbers that stand for each answer in an answer line. FORMAT.md says
+//! the same in words.
 
-use crate::file::Header;
+use crate::checker::{Last, Verdict};
+use crate::file::{FileRefusal, Header};
 use crate::steps::State;
-
-/// The checker's answer where it does not refuse. From a step, Accepted means
-/// that the round was taken.
-#[derive(Debug, PartialEq)]
-pub enum Verdict {
-    Accepted,
-    Rejected(u64),
-}
-
-/// The answer of the form without tables.
-#[derive(Debug, PartialEq)]
-pub enum Last {
-    Value(u64),
-    Rejected(u64),
-}
-
-/// "A refusal returns its number; 10 to 13 also the line, from 1".
-#[derive(Debug, PartialEq)]
-pub enum FileRefusal {
-    Number(u64),
-    Line(u64, u64),
-}
 
 /// The kinds: each answer starts with one of them.
 pub const DONE: u64 = 0;

@@ -1,10 +1,24 @@
 //! Document 01's checker in one call, with tables and without.
 
-use crate::answers::{Last, Verdict};
 use crate::field::add;
 use crate::refusals::{element, elements, exact, limits, messages_length, tables_length};
 use crate::rounds::value;
 use crate::tables::f;
+
+/// The checker's answer where it does not refuse. From a step, Accepted means
+/// that the round was taken.
+#[derive(Debug, PartialEq)]
+pub enum Verdict {
+    Accepted,
+    Rejected(u64),
+}
+
+/// The answer of the form without tables.
+#[derive(Debug, PartialEq)]
+pub enum Last {
+    Value(u64),
+    Rejected(u64),
+}
 
 /// "In round j the message must have s(0) + s(1) = c(j-1)".
 pub fn fits(n: u64, message: &[u64], claim: u64) -> bool {

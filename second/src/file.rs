@@ -1,7 +1,6 @@
 //! Document 01's "Proof file": a reader that splits the bytes into lines and
 //! takes the lines one after the other.
 
-use crate::answers::FileRefusal;
 use crate::refusals::{messages_length, MOST_DEGREE, MOST_FILE_BYTES, MOST_VARS};
 
 /// What a file says. The coefficients stand in the lent list.
@@ -10,6 +9,13 @@ pub struct Header {
     pub vars: u64,
     pub degree: u64,
     pub claim: u64,
+}
+
+/// "A refusal returns its number; 10 to 13 also the line, from 1".
+#[derive(Debug, PartialEq)]
+pub enum FileRefusal {
+    Number(u64),
+    Line(u64, u64),
 }
 
 /// The lines that a byte 10 ends, and the bytes after the last of them.

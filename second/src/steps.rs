@@ -1,8 +1,7 @@
 //! Document 01's checker in steps. The state is five plain numbers that the
 //! caller may have forged, so each use doubts them.
 
-use crate::answers::Verdict;
-use crate::checker::fits;
+use crate::checker::{fits, Verdict};
 use crate::refusals::{element, elements, exact, limits};
 use crate::rounds::value;
 

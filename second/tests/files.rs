@@ -1,9 +1,8 @@
 //! Document 01's cases for the proof file, and the order of its refusals.
 
-use second::answers::{FileRefusal, Verdict};
-use second::checker::check;
+use second::checker::{check, Verdict};
 use second::field::P;
-use second::file::{read, Header};
+use second::file::{read, FileRefusal, Header};
 
 const FILE: &str = "sumproof=1\nfield=2147483647\nvars=2\ndegree=2\nclaim=6\n\
                     round=4,0,2147483645\nround=2147483629,30,2147483639\nend=2\n";

@@ -1,6 +1,6 @@
 //! Reads cases on standard input and answers them through the crate, in the
-//! form that second/FORMAT.md fixes. `second fresh` compares the answers with
-//! those of the second program.
+//! form that second/FORMAT.md fixes. tools/test-client compares the answers
+//! with the committed ones and, on fresh cases, with the second program's.
 
 use std::io::{self, BufRead, BufWriter, Write};
 

@@ -7,7 +7,7 @@ use crate::Refusal;
 #[must_use = "a proof that is rejected must not be believed"]
 #[derive(Clone, Copy, Debug, PartialEq, Eq, Hash)]
 pub enum Verdict {
-    /// Every round's sum and the final check hold.
+    /// Every round's sum and the final check hold, modulo p.
     Accepted,
     /// The first round whose sum fails. A final check that fails is reported
     /// as round m.
@@ -34,7 +34,7 @@ impl Verdict {
 #[must_use = "the value reached must be compared with f"]
 #[derive(Clone, Copy, Debug, PartialEq, Eq, Hash)]
 pub enum Rounds {
-    /// Every round's sum holds.
+    /// Every round's sum holds, modulo p.
     Reached {
         /// What f must be at the challenges.
         value: u32,
@@ -54,7 +54,8 @@ pub(crate) fn verdict(answer: Answer) -> Result<Verdict, Refusal> {
     }
 }
 
-/// Checks that f sums to `claim`, all rounds and the final check.
+/// Checks that f sums to `claim` modulo [`P`](crate::P), all rounds and the final
+/// check.
 ///
 /// # Errors
 ///
@@ -92,8 +93,9 @@ pub fn check(
     })
 }
 
-/// Checks the rounds without tables. The caller compares the value reached
-/// with f at the challenges, which it has from elsewhere.
+/// Checks the rounds of a claim modulo [`P`](crate::P) without tables. The caller
+/// compares the value reached with f at the challenges, which it has from
+/// elsewhere.
 ///
 /// # Errors
 ///

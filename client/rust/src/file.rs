@@ -9,7 +9,7 @@ pub struct Header {
     pub vars: u32,
     /// The number of tables.
     pub degree: u32,
-    /// The claimed sum.
+    /// The claimed sum, modulo p.
     pub claim: u32,
 }
 

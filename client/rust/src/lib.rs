@@ -1,8 +1,10 @@
-//! Sums over large tables, proved by sumcheck and checked.
+//! Sums over large tables modulo p, proved by sumcheck and checked.
 //!
 //! A server adds up a table and sends the total with a proof; a client checks
-//! it. This crate is a safe face over a library whose functions are proved,
-//! and adds nothing of its own to their answers. Every input gets an answer:
+//! it. Every total is modulo p = 2147483647, which is [`P`].
+//!
+//! This crate is a safe face over a library whose functions are proved, and
+//! adds nothing of its own to their answers. Every input gets an answer:
 //! nothing here panics, and a call that is turned down says why with a
 //! [`Refusal`].
 //!
@@ -14,6 +16,26 @@
 //! at index x1·2^(m-1) + .. + xm. f is the product of the tables' extensions.
 //! The *messages* are m rounds of k+1 coefficients, lowest power first, and
 //! there are m *challenges*.
+//!
+//! # What a total modulo p says
+//!
+//! What is claimed, proved and checked is the sum's remainder. That is the sum
+//! itself if the sum is below p, which is sure if 2^m times the greatest number
+//! of the table is below p; with k tables, 2^m times the product of their
+//! greatest numbers. Otherwise only the remainder is proved.
+//!
+//! A negative balance -b, with 0 < b < p, is written as p - b, which is what
+//! [`field::negative`] gives. To read the total as a signed number one must
+//! know bounds: if each amount that is added up (with k tables, each product)
+//! lies between -B and B, and 2^m·B is below p/2, then a total above p/2 stands
+//! for total - p, and any other for itself.
+//!
+//! ```
+//! use sendurafi::{field, true_sum, P};
+//! // 3 - 10 + 4 + 1 is -2.
+//! assert_eq!(true_sum(2, 1, &[3, field::negative(10)?, 4, 1])?, P - 2);
+//! # Ok::<(), sendurafi::Refusal>(())
+//! ```
 //!
 //! # What acceptance means
 //!

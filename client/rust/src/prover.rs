@@ -2,8 +2,8 @@
 
 use crate::{ffi, Refusal};
 
-/// Writes the true polynomials of all rounds to the first m(k+1) places of
-/// `messages`.
+/// Proves the sum of f over all corners, modulo [`P`](crate::P): writes the true
+/// polynomials of all rounds to the first m(k+1) places of `messages`.
 ///
 /// It works in `scratch`, whose first k·2^m places are 0 afterwards. Both
 /// lists may be longer, and what is behind stays as it was. Round j does not

@@ -25,7 +25,7 @@ pub struct State {
     pub degree: u32,
     /// Rounds taken.
     pub taken: u32,
-    /// The running claim.
+    /// The running claim, modulo p.
     pub claim: u32,
     /// Whether a round was rejected.
     pub rejected: bool,
@@ -35,7 +35,7 @@ pub struct State {
 #[must_use = "a round that is rejected must not be believed"]
 #[derive(Clone, Copy, Debug, PartialEq, Eq, Hash)]
 pub enum Step {
-    /// The round's sum is the running claim, and the round was taken.
+    /// The round's sum is the running claim modulo p, and the round was taken.
     Taken,
     /// The round's sum fails. The state is marked, and takes no more steps.
     Rejected {
@@ -45,7 +45,8 @@ pub enum Step {
 }
 
 impl State {
-    /// The state before any round.
+    /// The state before any round, for the claim that f sums to `claim` modulo
+    /// [`P`](crate::P).
     ///
     /// # Errors
     ///

@@ -4,9 +4,10 @@
 mod random;
 
 use random::Random;
-use second::answers::{FileRefusal, Last, Verdict as SecondVerdict};
+use second::checker::{self, Last, Verdict as SecondVerdict};
 use second::field::P as N;
-use second::{checker, field as second_field, file, part, rounds, steps, tables};
+use second::file::{self, FileRefusal};
+use second::{field as second_field, part, rounds, steps, tables};
 use sendurafi::{
     check, check_rounds, field, prove, read, round_part, true_sum, value_at, Refusal, Rounds,
     State, Step, Verdict,

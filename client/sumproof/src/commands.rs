@@ -2,7 +2,7 @@
 
 use std::path::Path;
 
-use sendurafi::{check_rounds, field, messages_len, true_sum, Refusal, Rounds, Verdict};
+use sendurafi::{check_rounds, field, messages_len, true_sum, Refusal, Rounds, Verdict, P};
 
 use crate::args::Options;
 use crate::layout::columns;
@@ -26,7 +26,7 @@ pub fn check(options: &Options) -> Answer<Outcome> {
         Judged::Accepted => {
             say(&format!(
                 "accepted: the claim {} passed {} and the final check\n",
-                proof.claim,
+                modulo_p(proof.claim),
                 rounds(&proof)
             ))?;
             Ok(Outcome::Done)
@@ -34,7 +34,8 @@ pub fn check(options: &Options) -> Answer<Outcome> {
         Judged::Sum(round) => {
             say(&format!(
                 "rejected in round {}: its sum is not the running claim (claim {})\n",
-                round, proof.claim
+                round,
+                modulo_p(proof.claim)
             ))?;
             Ok(Outcome::Rejected)
         }
@@ -43,11 +44,16 @@ pub fn check(options: &Options) -> Answer<Outcome> {
                 "rejected in round {}: the sums hold in {}, but the final check fails (claim {})\n",
                 round,
                 rounds(&proof),
-                proof.claim
+                modulo_p(proof.claim)
             ))?;
             Ok(Outcome::Rejected)
         }
     }
+}
+
+/// A sum with its modulus, so that no one takes it for the plain sum.
+fn modulo_p(sum: u32) -> String {
+    format!("{} modulo {}", sum, P)
 }
 
 /// The verdict, with a failed sum told from a failed final check.
@@ -99,7 +105,7 @@ pub fn prove(options: &Options) -> Answer<Outcome> {
     let bytes = proof::write(&options.out, &proof)?;
     say(&format!(
         "claim {}, {}, {} bytes in {}\n",
-        proof.claim,
+        modulo_p(proof.claim),
         rounds(&proof),
         bytes,
         options.out.display()
@@ -118,11 +124,12 @@ pub fn make(vars: u32, degree: u32, tables: &[u32], challenges: &[u32]) -> Resul
 
 pub fn show(path: &Path) -> Answer<Outcome> {
     let proof = proof::read(path)?;
-    let mut head = Vec::new();
-    for (name, number) in [("vars", proof.vars), ("degree", proof.degree), ("claim", proof.claim)] {
-        head.push(vec![name.to_string(), number.to_string()]);
-    }
-    let mut text = columns(&head, &[]);
+    let head = [
+        ["vars".to_string(), proof.vars.to_string()],
+        ["degree".to_string(), proof.degree.to_string()],
+        ["claim".to_string(), modulo_p(proof.claim)],
+    ];
+    let mut text = columns(&head.map(Vec::from), &[]);
     if proof.vars > 0 {
         text.push_str(&format!("\n{}", rounds_shown(&proof)?));
     }
@@ -161,6 +168,7 @@ fn ends(message: &[u32]) -> Result<u32, Refusal> {
 pub fn sum(options: &Options) -> Answer<Outcome> {
     let tables = tables::read(options)?;
     tables.progress("adding up");
-    say(&format!("{}\n", true_sum(tables.vars, tables.degree, &tables.list)?))?;
+    let total = true_sum(tables.vars, tables.degree, &tables.list)?;
+    say(&format!("{}\n", modulo_p(total)))?;
     Ok(Outcome::Done)
 }

@@ -11,7 +11,7 @@ pub fn all() -> String {
 }
 
 const TEXT: &str = "\
-sumproof proves sums over tables and checks the proofs.
+sumproof proves sums over tables, modulo p = MODULUS, and checks the proofs.
 
   sumproof check PROOF --table FILE.. --challenges FILE
   sumproof prove --table FILE.. --challenges FILE --out PROOF
@@ -20,15 +20,25 @@ sumproof proves sums over tables and checks the proofs.
   sumproof demo
 
 check   reads the proof file PROOF and checks its claim against the tables
-prove   adds up the tables and writes the proof file PROOF
+prove   adds up the tables modulo p and writes the proof file PROOF
 show    prints what a proof file says
-sum     prints the sum
+sum     prints the sum modulo p
 demo    shows an honest server, and some that lie
 
 1 to MOST_TABLES tables of equal length may be given. The sum is that of the
-products of the numbers that stand at the same place of each table, modulo
-MODULUS. A table has 1, 2, 4, .. MOST_NUMBERS numbers, each below MODULUS.
-There is one challenge for each doubling: MOST_VARS for MOST_NUMBERS numbers.
+products of the numbers that stand at the same place of each table, modulo p.
+A table has 1, 2, 4, .. MOST_NUMBERS numbers, each below p. There is one
+challenge for each doubling: MOST_VARS for MOST_NUMBERS numbers.
+
+What is claimed, proved and checked is the sum's remainder modulo p. That is
+the sum itself if the sum is below p, which is sure if the length of a table
+times the product of the tables' greatest numbers is below p. Otherwise only
+the remainder is proved.
+
+A negative balance -b, with 0 < b < p, is written as p - b. To read the sum as
+a signed number one must know bounds: if each amount that is added up (with
+several tables, each product) lies between -B and B, and the length times B is
+below p/2, then a sum above p/2 stands for sum - p, and any other for itself.
 
 Options
   --table FILE..     the tables; the option may be repeated

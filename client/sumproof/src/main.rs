@@ -1,4 +1,4 @@
-//! `sumproof`: proves sums over tables and checks the proofs.
+//! `sumproof`: proves sums over tables modulo p and checks the proofs.
 
 mod args;
 mod commands;

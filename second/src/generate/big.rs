@@ -2,9 +2,9 @@
 //! lines are short.
 
 use super::defects::{of_field, with};
+use super::growing::Inputs;
 use super::liars::lie;
 use super::proofs::{proof, proof_of};
-use super::Inputs;
 use crate::field::P;
 use crate::lists::List;
 use crate::refusals::{tables_length, MOST_DEGREE, MOST_VARS};

@@ -2,7 +2,7 @@
 //! with small moduli are in the unit tests.
 
 use super::files::{bytes, documents_file, read};
-use super::Inputs;
+use super::growing::Inputs;
 use crate::cases::Case;
 use crate::field::P;
 

@@ -2,7 +2,7 @@
 //! lines removed, doubled and swapped; numbers written in other ways.
 
 use super::files::{any_file, bytes, documents_file, read, Lines};
-use super::Inputs;
+use super::growing::Inputs;
 use crate::random::Random;
 use crate::refusals::MOST_DEGREE;
 

@@ -2,8 +2,8 @@
 //! refusals names for an entry, so that the order of refusals shows. The
 //! defects of a field come from what the field is.
 
+use super::growing::{Inputs, EDGES};
 use super::proofs::proof;
-use super::{Inputs, EDGES};
 use crate::cases::{kinds, Case, Field, Kind};
 use crate::field::P;
 use crate::random::Random;

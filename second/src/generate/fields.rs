@@ -1,6 +1,6 @@
 //! Cases for the six field entries.
 
-use super::{Inputs, EDGES};
+use super::growing::{Inputs, EDGES};
 use crate::cases::Case;
 use crate::field::P;
 

@@ -1,7 +1,7 @@
 //! Proof files: whole ones, wrong counts, room, and sizes at the limit.
 
+use super::growing::Inputs;
 use super::proofs::{proof, room, Proof};
-use super::Inputs;
 use crate::cases::Case;
 use crate::field::P;
 use crate::lists::List;

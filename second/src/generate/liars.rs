@@ -2,8 +2,8 @@
 //! any round, or the final check, is the first to fail. A lucky challenge
 //! makes a false claim true again, as in document 01's P10.
 
+use super::growing::Inputs;
 use super::proofs::{proof, Proof};
-use super::Inputs;
 use crate::cases::Case;
 use crate::field::{add as plus_mod, inv, mul, sub, P};
 use crate::random::Random;
@@ -99,8 +99,7 @@ pub fn add(to: &mut Inputs) {
 #[cfg(test)]
 mod tests {
     use super::*;
-    use crate::answers::Verdict;
-    use crate::checker::check;
+    use crate::checker::{check, Verdict};
 
     fn verdict(p: &Proof) -> Result<Verdict, u64> {
         let tables = p.tables.members();

@@ -7,54 +7,17 @@ mod damage;
 mod defects;
 mod fields;
 mod files;
+mod growing;
 mod liars;
 mod proofs;
 mod sequences;
 mod states;
 
-use std::collections::HashSet;
-
-use crate::cases::Case;
-use crate::field::P;
-use crate::random::Random;
-
-/// The values at the edges: of the field, of 31 and of 32 bits.
-pub const EDGES: [u64; 7] = [0, 1, P - 1, P, P + 1, 1 << 31, (1 << 32) - 1];
-
-/// The inputs so far, and the numbers to come.
-pub struct Inputs {
-    pub text: String,
-    seen: HashSet<String>,
-    pub random: Random,
-}
-
-impl Inputs {
-    pub fn comment(&mut self, words: &str) {
-        self.text.push_str("# ");
-        self.text.push_str(words);
-        self.text.push('\n');
-    }
-
-    /// Adds a case, unless the same line is there already.
-    pub fn case(&mut self, case: &Case) {
-        let line = case.written();
-        if self.seen.insert(line.clone()) {
-            self.text.push_str(&line);
-            self.text.push('\n');
-        }
-    }
-
-    pub fn cases(&mut self, cases: &[Case]) {
-        for case in cases {
-            self.case(case);
-        }
-    }
-}
+use growing::Inputs;
 
 /// The whole inputs as text.
 pub fn inputs(seed: u64) -> String {
-    let mut inputs =
-        Inputs { text: String::new(), seen: HashSet::new(), random: Random::new(seed) };
+    let mut inputs = Inputs::new(seed);
     inputs.comment(&format!(
         "Made by: second inputs {}. FORMAT.md says what the numbers mean.",
         seed
@@ -74,6 +37,8 @@ pub fn inputs(seed: u64) -> String {
 
 #[cfg(test)]
 mod tests {
+    use std::collections::HashSet;
+
     use super::*;
     use crate::cases::{parse, ENTRIES};
     use crate::run::answer;

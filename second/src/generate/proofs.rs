@@ -1,7 +1,7 @@
 //! A proof with all its parts, the well-formed cases that come from it, and
 //! these cases for every number of variables up to 8 and every degree.
 
-use super::Inputs;
+use super::growing::Inputs;
 use crate::cases::Case;
 use crate::field::P;
 use crate::lists::List;

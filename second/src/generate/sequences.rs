@@ -2,9 +2,9 @@
 //! sequence of steps, refused ones among it, answers as the protocol does on
 //! the steps that were not refused."
 
+use super::growing::Inputs;
 use super::liars::lie;
 use super::proofs::{proof, Proof};
-use super::Inputs;
 use crate::cases::{Case, MOST_STEPS};
 use crate::field::P;
 use crate::random::Random;

@@ -2,7 +2,7 @@
 //! closing. "any use of a state with more rounds taken than vars, or rejected
 //! with all rounds taken" is among them.
 
-use super::Inputs;
+use super::growing::{Inputs, EDGES};
 use crate::cases::Case;
 use crate::field::{inv, mul, sub, P};
 use crate::refusals::MOST_DEGREE;
@@ -73,7 +73,7 @@ pub fn add(to: &mut Inputs) {
     to.comment("opening at the edges");
     for vars in [0, 1, 15, 16, 17, 1 << 31, TOP] {
         for degree in [0, 1, 2, 3, 4, TOP] {
-            for claim in super::EDGES {
+            for claim in EDGES {
                 to.case(&Case::new(30).number(vars).number(degree).number(claim));
             }
         }

@@ -1,9 +1,10 @@
 //! The honest server: the conversation round by round, and the proof file.
 
 use sendurafi::{
-    messages_len, prove, round_part, true_sum, value_at, Refusal, State, Step, Verdict,
+    messages_len, prove, round_part, true_sum, value_at, Refusal, State, Step, Verdict, P,
 };
 
+use super::made::MOST_BALANCE;
 use super::VARS;
 use crate::commands::{judge, make, Judged};
 use crate::layout::{columns, grouped};
@@ -24,15 +25,24 @@ fn message(ledger: &[u32], known: &[u32], round: u32) -> Result<Vec<u32>, Refusa
     Ok(round_part(VARS, 1, &messages, round)?.to_vec())
 }
 
+/// What the server says, and why the client may read it as a plain total.
+fn said(ledger: &[u32], total: u32) -> String {
+    format!(
+        "A ledger of {count} balances\n\n\
+         The server says that they add up to {total} modulo {p}. As no\n\
+         balance is over {most}, and {count} times {most} is below {p}, that is\n\
+         the total itself. The client asks for a proof.\n\n",
+        count = grouped(ledger.len() as u64),
+        total = shown(total),
+        most = shown(MOST_BALANCE),
+        p = shown(P)
+    )
+}
+
 /// The client takes each message, and only then draws the challenge.
 pub fn conversation(ledger: &[u32], challenges: &[u32]) -> Answer<String> {
     let total = true_sum(VARS, 1, ledger)?;
-    let mut text = format!(
-        "A ledger of {} balances\n\n\
-         The server says that they add up to {}. The client asks for a proof.\n\n",
-        grouped(ledger.len() as u64),
-        shown(total)
-    );
+    let mut text = said(ledger, total);
     let title = ["round", "server: message", "", "client: challenge", "running claim"];
     let mut rows = vec![title.map(str::to_string).to_vec()];
     let mut state = State::open(VARS, 1, total)?;
@@ -72,11 +82,13 @@ pub fn file(ledger: &[u32], challenges: &[u32]) -> Answer<(Proof, String)> {
         _ => "rejected",
     };
     let text = format!(
-        "\nThe same as a proof file of {} bytes: vars {}, degree {}, claim {}; {}.\n",
+        "\nThe same as a proof file of {} bytes: vars {}, degree {},\n\
+         claim {} modulo {}; {}.\n",
         sent.len(),
         proof.vars,
         proof.degree,
         shown(proof.claim),
+        shown(P),
         verdict
     );
     Ok((proof, text))

@@ -115,5 +115,7 @@ fn lucky() -> Result<Tried, Refusal> {
         Verdict::Accepted => "accepted".to_string(),
         Verdict::Rejected { round } => format!("rejected in round {}", round),
     };
-    Ok(("the balances 3, 4, 1, 2 with the total 11, and a lucky challenge".to_string(), answer))
+    let what =
+        "the balances 3, 4, 1, 2 with the total 11 modulo 2,147,483,647, and a lucky challenge";
+    Ok((what.to_string(), answer))
 }

@@ -13,10 +13,12 @@ fn numbers(mut state: u64) -> impl Iterator<Item = u32> {
     })
 }
 
-/// Balances below 30,000, so that their total stays below p and is the total
-/// itself, not only its remainder.
+/// So low that the total stays below p and is the total itself, not only its
+/// remainder.
+pub const MOST_BALANCE: u32 = 29_999;
+
 pub fn ledger() -> Vec<u32> {
-    numbers(1).map(|x| x % 30_000).take(1 << VARS).collect()
+    numbers(1).map(|x| x % (MOST_BALANCE + 1)).take(1 << VARS).collect()
 }
 
 pub fn challenges() -> Vec<u32> {
@@ -29,8 +31,9 @@ mod tests {
 
     #[test]
     fn the_total_stays_below_p() {
+        assert!(ledger().iter().all(|x| *x <= MOST_BALANCE));
+        assert!(u64::from(MOST_BALANCE) << VARS < u64::from(P));
         let total: u64 = ledger().iter().map(|x| u64::from(*x)).sum();
-        assert!(total < u64::from(P));
         assert_eq!(sendurafi::true_sum(VARS, 1, &ledger()), Ok(total as u32));
     }
 }
