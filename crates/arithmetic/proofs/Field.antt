@@ -8,7 +8,7 @@ use native.Mathlib.Omega.{arith}
 use lib.Dec.{eqb}
 use borrow.Author.Tests.{eqb-true, eqb-false}
 use Rattle.arithmetic.specs.Modulo.{mul, neg}
-use Rattle.arithmetic.specs.Prime.{Prime, inverse, inverseFrom}
+use Rattle.arithmetic.specs.Prime.{Prime, inverse, inverseFrom, TimesInverse, OnlyInverse, NoInverse}
 use Rattle.arithmetic.proofs.Ring.{at, _⊗_, ⊖_, same}
 use Rattle.arithmetic.proofs.Modulo.{mul-one-mod, mul-zero-mod, mul-mod-left, mul-mod-right}
 
@@ -70,6 +70,29 @@ inverse-product n h a z =
     let r : (b : ℕ) × (mul n a b ≡ 1) = inverse-exists n h a z in
     let e : mul n a (r .0 % n) ≡ 1 = mul-mod-right n a (r .0) ∙ r .1 in
     ap (mul n a) (inverse-is n a (r .0 % n) (mod-lt (r .0) (omega (arith, h .above))) e) ∙ e
+
+-- where the search finds nothing it ends with 0
+none : (n a i c : ℕ) → i + c ≤ n → ((b : ℕ) → b < n → mul n a b ≡ 1 → ⊥) → inverseFrom n a i c ≡ 0
+unfolding inverseFrom
+none n a i zero l never = refl
+none n a i (suc c) l never = go (eqb (mul n a i) 1) refl (none n a (suc i) c (omega arith) never)
+  where
+    go : (t : Bool) → eqb (mul n a i) 1 ≡ t → inverseFrom n a (suc i) c ≡ 0
+        → _≡_ {A = ℕ} (elim t as (λ _. ℕ) [ true ↦ i | false ↦ inverseFrom n a (suc i) c ]) 0
+    go true t ih = absurd (never i (omega arith) (eqb-true (mul n a i) 1 t))
+    go false t ih = ih
+
+pub times-inverse : TimesInverse
+unfolding TimesInverse
+times-inverse = inverse-product
+
+pub only-inverse : OnlyInverse
+unfolding OnlyInverse
+only-inverse = inverse-is
+
+pub no-inverse : NoInverse
+unfolding NoInverse inverse
+no-inverse n a never = none n a 0 n (omega arith) never
 
 -- Euclid's lemma: a product is 0 only where a factor is
 pub product-zero : (n : ℕ) → Prime n → (a b : ℕ) → mul n a b ≡ 0 → (a % n ≡ 0 → ⊥) → b % n ≡ 0

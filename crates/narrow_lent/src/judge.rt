@@ -74,7 +74,8 @@ pub fn is_outside(list: &[u32]) -> bool
     first_outside(list, 1, list.len()) < list.len()
 }
 
-// The same of so many tables of one size, where the list is that long.
+// The same, walked table after table, as document 01 has the search. How many tables there are and of what size only guides the walk, and has no part
+// in the answer: a list that is not that long is walked as one table.
 pub fn tables_outside(list: &[u32], tables: usize, places: usize) -> bool
     ensures { λ r. ⌜ r ≡ outside p (now (list .entry)) ⌝ }
 {

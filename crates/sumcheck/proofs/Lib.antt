@@ -5,6 +5,7 @@
 --   TruePolynomial  a true polynomial has the values that the document says, and is the only one; its values at 0 and 1
 --   Halves        an extension by halves; the true sum by places
 --   Meaning       the true sum in plain numbers; what the true polynomial is (specs/Meaning)
+--   MeaningWorked   the numbers of specs/Meaning
 --   Parts         a lent list as parts of one size
 --   Answers       the entries' answers, one test at a time
 --   Folded        RoundFolded   tables folded by several challenges, and a true polynomial from them
@@ -38,6 +39,7 @@ pub mod Soundness
 pub mod Search
 pub mod Halves
 pub mod Meaning
+pub mod MeaningWorked
 pub mod Parts
 pub mod Answers
 pub mod Folded

@@ -68,3 +68,24 @@ NoOther = (n : ℕ) → Prime n → (tables : List (List ℕ)) (r : List ℕ) (r
 unfoldable pub AddsUp : Type 0
 AddsUp = (n : ℕ) → 0 < n → (tables : List (List ℕ)) (r : List ℕ) (rest : ℕ)
     → add n (value n (truePolynomial n tables r rest) 0) (value n (truePolynomial n tables r rest) 1) ≡ trueClaim n tables r (suc rest)
+
+-- the statements in numbers that can be worked out by hand (document 01, "Sums done by hand"); each is proved from the statement that its comment names
+pub record MeaningWorked : Type 0 where
+  -- ManyTables: 0·3 + 1·4 + 2·1 + 0·2 = 6, modulo 5; with no variables 5·7 = 35, modulo 11
+  pub pairs : trueSum 5 ((0 ∷ 1 ∷ 2 ∷ 0 ∷ []) ∷ (3 ∷ 4 ∷ 1 ∷ 2 ∷ []) ∷ []) 2 ≡ 1
+  pub pair : trueSum 11 ((5 ∷ []) ∷ (7 ∷ []) ∷ []) 0 ≡ 2
+  -- OneTable: 3 + 4 + 1 + 2 = 10, modulo 7
+  pub wrapped : trueSum 7 ((3 ∷ 4 ∷ 1 ∷ 2 ∷ []) ∷ []) 2 ≡ 3
+  -- TotalItself: the same modulo 11 (P1), and a ledger of one balance
+  pub whole : trueSum 11 ((3 ∷ 4 ∷ 1 ∷ 2 ∷ []) ∷ []) 2 ≡ 10
+  pub balance : trueSum 11 ((9 ∷ []) ∷ []) 0 ≡ 9
+  -- CallersRule: numbers up to 2 and up to 4 in four places add up to 32 at most; one place, up to 5 and up to 7
+  pub bounded : trueSum 33 ((0 ∷ 1 ∷ 2 ∷ 0 ∷ []) ∷ (3 ∷ 4 ∷ 1 ∷ 2 ∷ []) ∷ []) 2 ≡ 6
+  pub atMost : trueSum 36 ((5 ∷ []) ∷ (7 ∷ []) ∷ []) 0 ≡ 35
+  -- ValueIsSum: round 2 of P4, after challenge 5, is 4 + X; at 2 it is the extension of P2, 6
+  pub second : value 11 (truePolynomial 11 ((3 ∷ 4 ∷ 1 ∷ 2 ∷ []) ∷ []) (5 ∷ []) 0) 2 ≡ 6
+  -- NoOther: no other two elements modulo 11 make a list with the values of 4 + X
+  pub only : (s : List ℕ) → length s ≡ 2 → Elements 11 s → ((x : ℕ) → x < 11 → value 11 s x ≡ value 11 (4 ∷ 1 ∷ []) x) → s ≡ 4 ∷ 1 ∷ []
+  -- AddsUp: the values of 7 + 7X at 0 and 1 (P3) add up to the sum 10 (P1), and those of 4 + X to what is left after challenge 5
+  pub first : add 11 (value 11 (7 ∷ 7 ∷ []) 0) (value 11 (7 ∷ 7 ∷ []) 1) ≡ trueClaim 11 ((3 ∷ 4 ∷ 1 ∷ 2 ∷ []) ∷ []) [] 2
+  pub last : add 11 (value 11 (4 ∷ 1 ∷ []) 0) (value 11 (4 ∷ 1 ∷ []) 1) ≡ trueClaim 11 ((3 ∷ 4 ∷ 1 ∷ 2 ∷ []) ∷ []) (5 ∷ []) 1
