@@ -11,13 +11,13 @@ ghost use Rattle.sumcheck.specs.Entries.{roundsRules, roundsAnswer};
 ghost use Rattle.narrow_field.specs.Narrow.{p};
 ghost use Rattle.narrow_checker.specs.Said.{saidRounds};
 use super::Rounds;
+use narrow_array::round::coefficients;
+use narrow_array::round::sum_fits;
+use narrow_array::round::value_at;
 use narrow_field::field;
 use narrow_lent::judge;
 use narrow_lent::lengths::messages_length;
 use narrow_lent::lengths::wide;
-use narrow_message::round::coefficients;
-use narrow_message::round::sum_fits;
-use narrow_message::round::value_at;
 
 // Whether challenges or messages are not of the exact length.
 pub(crate) fn is_not_long(vars: u32, degree: u32, challenges: &[u32], messages: &[u32]) -> bool

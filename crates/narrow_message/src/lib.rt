@@ -1,3 +1,2 @@
-// A round's message over the narrow field (document 01): `part` finds it in the caller's list, `round` has its coefficients as one array value.
+// A round's message in the caller's list over the narrow field (document 01, "What is offered").
 pub mod part;
-pub mod round;

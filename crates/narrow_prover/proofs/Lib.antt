@@ -1,5 +1,3 @@
--- The laws of arrays of four.
---   Four   a list of four, place by place
+-- The law of the prover's answer.
 --   Pinned  no two answers say the same
-pub mod Four
 pub mod Pinned

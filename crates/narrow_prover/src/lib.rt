@@ -1,6 +1,5 @@
-// The prover over the narrow field (document 01, "What is offered"). `array` has a round's coefficients as one array value, `fold` the folding of
-// tables by a challenge, `round` a round's polynomial, `memory` copying and clearing, `prove` the entry.
-pub mod array;
+// The prover over the narrow field (document 01, "What is offered"). `fold` has the folding of tables by a challenge, `round` a
+// round's polynomial, `memory` copying and clearing, `prove` the entry.
 pub mod fold;
 pub mod memory;
 pub mod prove;

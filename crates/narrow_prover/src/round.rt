@@ -8,8 +8,8 @@ ghost use Rattle.polynomial.specs.Elements.{countFrom};
 ghost use Rattle.sumcheck.specs.Lent.{parts};
 ghost use Rattle.sumcheck.proofs.RoundFolded.{termAt};
 ghost use Rattle.narrow_field.specs.Narrow.{p};
-use crate::array::added;
-use crate::array::line_times;
+use narrow_array::array::added;
+use narrow_array::array::line_times;
 
 // The product of the tables' lines at place i.
 pub(crate) fn term(tables: &[u32], count: usize, places: usize, half: usize, i: usize) -> [u32; 4]

@@ -9,12 +9,12 @@ use super::state::State;
 use super::state::doubt;
 use super::state::is_forged;
 use super::state::is_over;
+use narrow_array::round::coefficients;
+use narrow_array::round::sum_fits;
+use narrow_array::round::value_at;
 use narrow_field::field::is_outside;
 use narrow_lent::judge;
 use narrow_lent::lengths::wide;
-use narrow_message::round::coefficients;
-use narrow_message::round::sum_fits;
-use narrow_message::round::value_at;
 
 // A step's round: its sum fits, or it rejects, with its round.
 pub enum Step {

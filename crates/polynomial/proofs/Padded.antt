@@ -10,12 +10,8 @@ use Rattle.arithmetic.proofs.Ring.{at, _⊕_, _⊗_, same}
 use Rattle.arithmetic.proofs.Modulo.{add-zero-mod, zero-add-mod, mul-zero-mod}
 use Rattle.polynomial.specs.Elements.{Every, Elements}
 use Rattle.polynomial.specs.Polynomial.{plus, scale, times, plusAll}
+use Rattle.polynomial.specs.Array.{lineTimes}
 use Rattle.polynomial.proofs.Shape.{length-plus}
-
--- the line a + d·X times a polynomial, cut off at the polynomial's length; before is the coefficient in front of the first
-abbrev pub lineTimes : ℕ → ℕ → ℕ → ℕ → List ℕ → List ℕ
-lineTimes n a d before [] = []
-lineTimes n a d before (c ∷ cs) = add n (mul n a c) (mul n d before) ∷ lineTimes n a d c cs
 
 lineTimes-zeros : (n a d z : ℕ) → lineTimes n a d 0 (replicate z 0) ≡ replicate z 0
 lineTimes-zeros n a d zero = refl

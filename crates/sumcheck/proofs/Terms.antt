@@ -13,7 +13,8 @@ use Rattle.polynomial.specs.Elements.{Every, Elements, countFrom}
 use Rattle.polynomial.specs.Polynomial.{plus, times}
 use Rattle.polynomial.proofs.Lists.{every, every-of-map}
 use Rattle.polynomial.proofs.Shape.{length-times-all, elements-times-all}
-use Rattle.polynomial.proofs.Padded.{lineTimes, lineTimes-some, total, total-plus, length-total, plus-padded}
+use Rattle.polynomial.specs.Array.{lineTimes}
+use Rattle.polynomial.proofs.Padded.{lineTimes-some, total, total-plus, length-total, plus-padded}
 use Rattle.sumcheck.specs.Lent.{parts}
 use Rattle.sumcheck.proofs.Corners.{count-cons, count-length}
 use Rattle.sumcheck.proofs.RoundFolded.{lineAt, termAt, roundOf}

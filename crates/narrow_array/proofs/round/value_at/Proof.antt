@@ -1,4 +1,4 @@
--- `narrow_message::round::value_at` meets its contract: the value so far is that of the coefficients from i on. Assumes nothing.
+-- `narrow_array::round::value_at` meets its contract: the value so far is that of the coefficients from i on. Assumes nothing.
 use mathlib.Core.Path.{_≡_, _∙_}
 use Prim.Native.Nat.{suc, _≤_}
 use lib.ListN.{length, drop}
@@ -8,8 +8,8 @@ use Rattle.polynomial.proofs.Array.{value-above, value-down, value-whole}
 use Rattle.narrow_field.specs.Narrow.{p}
 use borrow.Author.Needs.{needs}
 use native.Mathlib.Omega.{arith}
-use Rattle.narrow_message.proofs.round.value_at.Statement.{statement}
-use Rattle.narrow_message.proofs.round.value_at.Tie as tie
+use Rattle.narrow_array.proofs.round.value_at.Statement.{statement}
+use Rattle.narrow_array.proofs.round.value_at.Tie as tie
 
 abbrev Inv-loop : tie.InvT-loop
 Inv-loop x c v₀ i₀ v i = (i ≤ length c) × (v ≡ value p (drop i c) x)

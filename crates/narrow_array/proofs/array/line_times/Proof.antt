@@ -1,15 +1,15 @@
--- `narrow_prover::array::line_times` meets its contract: place by place. Assumes nothing.
+-- `narrow_array::array::line_times` meets its contract: place by place. Assumes nothing.
 use mathlib.Core.Path.{sym, ap, ap₂, _∙_}
 use mathlib.Core.List.{List}
 use Prim.Native.Nat.{ℕ}
 use Rattle.arithmetic.specs.Modulo.{add, mul, sub}
 use lib.ListN.{getD}
-use Rattle.polynomial.proofs.Padded.{lineTimes}
-use Rattle.narrow_prover.proofs.Four.{four, by-four}
+use Rattle.polynomial.specs.Array.{lineTimes}
+use Rattle.narrow_array.proofs.Four.{four, by-four}
 use Rattle.narrow_field.specs.Narrow.{p}
 use borrow.Author.Needs.{needs}
-use Rattle.narrow_prover.proofs.array.line_times.Statement.{statement}
-use Rattle.narrow_prover.proofs.array.line_times.Tie as tie
+use Rattle.narrow_array.proofs.array.line_times.Statement.{statement}
+use Rattle.narrow_array.proofs.array.line_times.Tie as tie
 
 less-requires : tie.Need-less-requires
 less-requires c κs = search needs

@@ -1,12 +1,12 @@
--- `narrow_message::round::sum_fits` meets its contract: two values of the array and one comparison. Assumes nothing.
+-- `narrow_array::round::sum_fits` meets its contract: two values of the array and one comparison. Assumes nothing.
 use mathlib.Core.Path.{ap, ap₂, _∙_}
 use Prim.Native.Nat.{ℕ}
 use lib.Dec.{eqb}
 use Rattle.arithmetic.specs.Modulo.{add}
 use Rattle.narrow_field.specs.Narrow.{p}
 use borrow.Author.Needs.{needs}
-use Rattle.narrow_message.proofs.round.sum_fits.Statement.{statement}
-use Rattle.narrow_message.proofs.round.sum_fits.Tie as tie
+use Rattle.narrow_array.proofs.round.sum_fits.Statement.{statement}
+use Rattle.narrow_array.proofs.round.sum_fits.Tie as tie
 
 value-at-requires : tie.Need-value-at-requires
 value-at-requires c κs = search needs

@@ -1,4 +1,4 @@
--- `narrow_message::round::coefficients` meets its contract: the first i coefficients stand in the array, with zeros on top. Assumes nothing.
+-- `narrow_array::round::coefficients` meets its contract: the first i coefficients stand in the array, with zeros on top. Assumes nothing.
 use mathlib.Core.Path.{_≡_, refl, ap, _∙_}
 use mathlib.Core.List.{List}
 use Prim.Native.Nat.{ℕ, suc, _-_, _≤_}
@@ -6,8 +6,8 @@ use lib.ListN.{length, set, getD}
 use Rattle.refusals.specs.Limits.{maxDegree}
 use Rattle.polynomial.proofs.Array.{filled, filled-more, filled-short, filled-whole}
 use native.Mathlib.Omega.{arith}
-use Rattle.narrow_message.proofs.round.coefficients.Statement.{statement}
-use Rattle.narrow_message.proofs.round.coefficients.Tie as tie
+use Rattle.narrow_array.proofs.round.coefficients.Statement.{statement}
+use Rattle.narrow_array.proofs.round.coefficients.Tie as tie
 
 abbrev Inv-loop : tie.InvT-loop
 Inv-loop message c₀ i₀ c i = (i ≤ suc maxDegree) × (i ≤ length message) × (c ≡ filled (suc maxDegree) message i)

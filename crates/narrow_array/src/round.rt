@@ -1,5 +1,4 @@
-// A round's coefficients as one array value (document 01, "Forms to follow"): k + 1 coefficients, lowest power first, and zeros on top. The array goes
-// in by value; every function takes every input.
+// A round's message as an array value, its value at a point, and its sum. Every function takes every input.
 ghost use mathlib.Core.Path.{_≡_};
 ghost use Prim.Native.Nat.{suc};
 ghost use Rattle.refusals.specs.Limits.{maxDegree};

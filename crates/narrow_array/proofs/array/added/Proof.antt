@@ -1,11 +1,11 @@
--- `narrow_prover::array::added` meets its contract: place by place. Assumes nothing.
+-- `narrow_array::array::added` meets its contract: place by place. Assumes nothing.
 use mathlib.Core.Path.{sym, ap₂, _∙_}
 use Rattle.polynomial.specs.Polynomial.{plus}
-use Rattle.narrow_prover.proofs.Four.{four, by-four}
+use Rattle.narrow_array.proofs.Four.{four, by-four}
 use Rattle.narrow_field.specs.Narrow.{p}
 use borrow.Author.Needs.{needs}
-use Rattle.narrow_prover.proofs.array.added.Statement.{statement}
-use Rattle.narrow_prover.proofs.array.added.Tie as tie
+use Rattle.narrow_array.proofs.array.added.Statement.{statement}
+use Rattle.narrow_array.proofs.array.added.Tie as tie
 
 array-read-plus : tie.Need-array-read-plus
 array-read-plus c = search needs
