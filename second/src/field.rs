@@ -5,7 +5,7 @@
 
 use crate::refusals::element;
 
-/// Document 01: "p = 2147483647 (2^31 - 1)".
+/// 2^31 - 1 (document 01, "The protocol").
 pub const P: u64 = 2147483647;
 
 pub fn add(n: u64, a: u64, b: u64) -> u64 {

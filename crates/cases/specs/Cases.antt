@@ -10,6 +10,7 @@ use Rattle.sumcheck.specs.Lent.{join}
 use Rattle.sumcheck.specs.Entries.{checkerAnswer, roundsAnswer}
 use Rattle.sumcheck.specs.Protocol.{Rounds, reached, rounds, Verdict, accepted, rejected, verdict}
 use Rattle.layout.specs.Reading.{Layout, Reading, file, refusedAt, reading}
+use Rattle.narrow_field.specs.Narrow.{p}
 use Rattle.narrow_file.specs.Narrow.{narrow}
 use Rattle.narrow_file.specs.Example.{wholeFile}
 
@@ -51,10 +52,6 @@ Holds (check n tables claim challenges messages answer) = verdict n tables claim
 Holds (lent n vars degree tables claim challenges messages a) = checkerAnswer n vars degree tables claim challenges messages ≡ a
 Holds (last n claim challenges messages answer) = rounds n claim challenges messages ≡ answer
 Holds (read n layout bytes tables challenges a end) = (checkFile n layout bytes tables challenges ≡ a) × (fileRounds n layout bytes challenges ≡ end)
-
--- 2^31 - 1
-abbrev p : ℕ
-p = 2147483647
 
 -- the table 3, 4, 1, 2 of document 002
 abbrev t : List ℕ

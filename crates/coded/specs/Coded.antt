@@ -14,42 +14,42 @@ use Rattle.coded.specs.declared.State.{State}
 use Rattle.coded.specs.declared.Stepped.{Stepped}
 use Rattle.coded.specs.declared.File.{File}
 
--- the four kinds of answer
-abbrev pub value : ℕ → Answer
-value x = record { kind = 0; number = 0; line = 0; value = x }
+-- the three kinds of answer: a value, a round, a refusal
+abbrev pub withValue : ℕ → Answer
+withValue x = record { kind = 0; number = 0; line = 0; value = x }
 
-abbrev pub round : ℕ → Answer
-round j = record { kind = 1; number = j; line = 0; value = 0 }
+abbrev pub withRound : ℕ → Answer
+withRound j = record { kind = 1; number = j; line = 0; value = 0 }
 
 abbrev pub turnedDown : ℕ → Answer
 turnedDown number = record { kind = 2; number = number; line = 0; value = 0 }
 
 -- a number; done; a verdict; what the rounds come to; opening; a step
 abbrev pub ofNumber : First.Answer ℕ → Answer
-ofNumber (given x) = value x
+ofNumber (given x) = withValue x
 ofNumber (refused number) = turnedDown number
 
 abbrev pub ofDone : First.Answer (Unit {0}) → Answer
-ofDone (given x) = value 0
+ofDone (given x) = withValue 0
 ofDone (refused number) = turnedDown number
 
 abbrev pub ofVerdict : First.Answer Protocol.Verdict → Answer
-ofVerdict (given accepted) = value 0
-ofVerdict (given (rejected j)) = round j
+ofVerdict (given accepted) = withValue 0
+ofVerdict (given (rejected j)) = withRound j
 ofVerdict (refused number) = turnedDown number
 
 abbrev pub ofRounds : First.Answer Protocol.Rounds → Answer
-ofRounds (given (reached c)) = value c
-ofRounds (given (failed j)) = round j
+ofRounds (given (reached c)) = withValue c
+ofRounds (given (failed j)) = withRound j
 ofRounds (refused number) = turnedDown number
 
 abbrev pub ofOpening : First.Answer Opened → Answer
-ofOpening (given opened) = value 0
+ofOpening (given opened) = withValue 0
 ofOpening (refused number) = turnedDown number
 
 abbrev pub ofStep : First.Answer Judged → Answer
-ofStep (given fitted) = value 0
-ofStep (given (rejects j)) = round j
+ofStep (given fitted) = withValue 0
+ofStep (given (rejects j)) = withRound j
 ofStep (refused number) = turnedDown number
 
 -- a mark as a number, and any number as a mark

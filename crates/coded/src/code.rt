@@ -5,7 +5,7 @@ ghost use Rattle.narrow_prover.specs.Proved.{said as saidProof};
 ghost use Rattle.narrow_checker.specs.Said.{said as saidVerdict, saidRounds};
 ghost use Rattle.narrow_steps.specs.Said.{saidOpening, saidStep, saidOpened, saidStepped, stateOf as checkerState};
 ghost use Rattle.narrow_file.specs.Narrow.{said as saidReply};
-ghost use Rattle.coded.specs.Coded.{value, round, turnedDown, ofNumber, ofDone, ofVerdict, ofRounds, ofOpening, ofStep, ofOpened, ofStepped, ofHead, ofState, stateOf, bit};
+ghost use Rattle.coded.specs.Coded.{withValue, withRound, turnedDown, ofNumber, ofDone, ofVerdict, ofRounds, ofOpening, ofStep, ofOpened, ofStepped, ofHead, ofState, stateOf, bit};
 use crate::Answer;
 use crate::File;
 use crate::State;
@@ -20,7 +20,7 @@ use narrow_steps::step::Step;
 
 // A value.
 fn valued(x: u32) -> Answer
-    ensures { λ r. ⌜ r ≡ value x ⌝ }
+    ensures { λ r. ⌜ r ≡ withValue x ⌝ }
 {
     Answer {
         kind: 0,
@@ -32,7 +32,7 @@ fn valued(x: u32) -> Answer
 
 // A rejecting round.
 fn rejected(j: u32) -> Answer
-    ensures { λ r. ⌜ r ≡ round j ⌝ }
+    ensures { λ r. ⌜ r ≡ withRound j ⌝ }
 {
     Answer {
         kind: 1,

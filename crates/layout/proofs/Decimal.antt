@@ -10,7 +10,7 @@ use lib.ListN.{length, length-append}
 use lib.Dec.{eqb, ltb}
 use borrow.Author.Tests.{eqb-false, lt-ltb, le-ltb, ltb-true, ltb-false, not-true}
 use Rattle.layout.specs.Bytes.{within, isDigit}
-use Rattle.layout.specs.Number.{all, plain, isNumber, numberOf, valueFrom, digits, decimal}
+use Rattle.layout.specs.Number.{all, plain, isNumber, numberOf, numberFrom, digits, decimal}
 use Rattle.layout.proofs.Tests.{between-in, between-holds, both}
 use Rattle.layout.proofs.Numbers.{number-yes, all-append, plain-first, valueFrom-append}
 
@@ -56,7 +56,7 @@ decimal-more v e h l =
     ∙ ap (λ (ds : List ℕ). ds ++ (48 + e) ∷ []) (digits-same n (suc v) v (omega arith) (omega arith)))
 
 -- a number is the digits of its value: the digits so far are those of v, and more follow
-more-digits : (v : ℕ) (rest : List ℕ) → 1 ≤ v → all isDigit rest ≡ true → decimal v ++ rest ≡ decimal (valueFrom v rest)
+more-digits : (v : ℕ) (rest : List ℕ) → 1 ≤ v → all isDigit rest ≡ true → decimal v ++ rest ≡ decimal (numberFrom v rest)
 more-digits v [] h d = append-nil (decimal v)
 more-digits v (b ∷ rest) h d =
     let r = both (isDigit b) (all isDigit rest) d in
@@ -91,7 +91,7 @@ number-decimal most (b ∷ c ∷ rest) e =
     let s : 48 + (b - 48) ≡ b = omega arith in
     let z : b - 48 ≡ 0 * 10 + (b - 48) = omega arith in (
       ap (λ (ds : List ℕ). ds ++ c ∷ rest) (sym (decimal-one (b - 48) (omega arith) ∙ ap (λ (x : ℕ). x ∷ []) s))
-          ∙ (more-digits (b - 48) (c ∷ rest) (omega arith) (d .1) ∙ ap (λ (v : ℕ). decimal (valueFrom v (c ∷ rest))) z),
+          ∙ (more-digits (b - 48) (c ∷ rest) (omega arith) (d .1) ∙ ap (λ (v : ℕ). decimal (numberFrom v (c ∷ rest))) z),
       h .2,
     )
 

@@ -7,7 +7,7 @@ use lib.ListN.{length}
 use lib.Dec.{eqb}
 use borrow.Author.Tests.{ne-eqb}
 use Rattle.layout.specs.Bytes.{within, isDigit, pieces}
-use Rattle.layout.specs.Number.{all, plain, isNumber, valueFrom}
+use Rattle.layout.specs.Number.{all, plain, isNumber, numberFrom}
 use Rattle.layout.proofs.Tests.{between-in, between-high}
 
 pub and-right : (s t : Bool) → t ≡ false → (s && t) ≡ false
@@ -34,7 +34,7 @@ pub plain-first : (first : ℕ) (later : List ℕ) → (first ≡ 48 → ⊥) �
 plain-first first [] h = refl
 plain-first first (next ∷ more) h = rw (ne-eqb first 48 h)
 
-pub valueFrom-append : (v : ℕ) (ds : List ℕ) (b : ℕ) → valueFrom v (ds ++ b ∷ []) ≡ valueFrom v ds * 10 + (b - 48)
+pub valueFrom-append : (v : ℕ) (ds : List ℕ) (b : ℕ) → numberFrom v (ds ++ b ∷ []) ≡ numberFrom v ds * 10 + (b - 48)
 valueFrom-append v [] b = refl
 valueFrom-append v (d ∷ ds) b = valueFrom-append (v * 10 + (d - 48)) ds b
 

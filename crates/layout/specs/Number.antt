@@ -22,13 +22,13 @@ abbrev pub isNumber : ℕ → List ℕ → Bool
 isNumber most text = all isDigit text && (within 1 most (length text) && plain text)
 
 -- the value of digits that follow digits of the value v
-abbrev pub valueFrom : ℕ → List ℕ → ℕ
-valueFrom v [] = v
-valueFrom v (b ∷ more) = valueFrom (v * 10 + (b - 48)) more
+abbrev pub numberFrom : ℕ → List ℕ → ℕ
+numberFrom v [] = v
+numberFrom v (b ∷ more) = numberFrom (v * 10 + (b - 48)) more
 
 -- the value of decimal digits
 abbrev pub numberOf : List ℕ → ℕ
-numberOf text = valueFrom 0 text
+numberOf text = numberFrom 0 text
 
 -- the last digits of n, as many as there are and at most `most`
 unfoldable pub digits : ℕ → ℕ → List ℕ

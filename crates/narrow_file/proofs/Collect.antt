@@ -10,7 +10,7 @@ use lib.ListN.{length, length-append, length-map}
 use lib.Dec.{eqb, ltb}
 use borrow.Author.Tests.{eqb-true, ltb-true}
 use Rattle.layout.specs.Bytes.{classOf, isDigit, pieces, widen}
-use Rattle.layout.specs.Number.{all, isNumber, numberOf, valueFrom}
+use Rattle.layout.specs.Number.{all, isNumber, numberOf, numberFrom}
 use Rattle.layout.specs.Line.{found, lineAt}
 use Rattle.layout.specs.Reading.{linesAt, roundLine}
 use Rattle.layout.proofs.Tests.{both, between-holds}
@@ -26,7 +26,7 @@ abbrev over : ℕ → List ℕ → ℕ
 over v [] = v
 over v (b ∷ ds) = over ((v * 10 + (b - 48)) % 2 ^ 32) ds
 
-over-value : (v : ℕ) (ds : List ℕ) → over (v % 2 ^ 32) ds ≡ valueFrom v ds % 2 ^ 32
+over-value : (v : ℕ) (ds : List ℕ) → over (v % 2 ^ 32) ds ≡ numberFrom v ds % 2 ^ 32
 over-value v [] = refl
 over-value v (b ∷ ds) =
     let y = b - 48 in

@@ -10,13 +10,13 @@ use Rattle.layout.specs.Reading.{Reading, refusedAt, readingThen, linesAt, roun
 use Rattle.file_line.specs.declared.line.Line.{Line}
 use Rattle.file_line.specs.declared.line.Line.the-variants.{Refused, Found}
 use Rattle.narrow_file.specs.Narrow.{narrow}
-use Rattle.narrow_file.specs.Passes.{bare, saidRounds, collect}
+use Rattle.narrow_file.specs.Passes.{bare, saidRoundLines, collect}
 use Rattle.narrow_file.proofs.Collect.{lines-collected}
 
-module _ (bytes : List ℕ) (at v d c : ℕ) (r : Line) (says : saidRounds bytes r ≡ bare (linesAt 6 v (roundLine narrow d) (drop at bytes))) where
+module _ (bytes : List ℕ) (at v d c : ℕ) (r : Line) (says : saidRoundLines bytes r ≡ bare (linesAt 6 v (roundLine narrow d) (drop at bytes))) where
   pub rounds-refused : {number m : ℕ} → r ≡ Refused number m → refusedAt number m ≡ fromRounds narrow v d c (drop at bytes)
   unfolding fromRounds
-  rounds-refused {number} {m} e = go (linesAt 6 v (roundLine narrow d) (drop at bytes)) (sym says ∙ ap (saidRounds bytes) e)
+  rounds-refused {number} {m} e = go (linesAt 6 v (roundLine narrow d) (drop at bytes)) (sym says ∙ ap (saidRoundLines bytes) e)
     where
       go : (o : Outcome) → bare o ≡ fault number m → refusedAt number m ≡ readingThen o (λ cs rest. fromEnd narrow v d c cs rest)
       go (fault a b) f = cc
@@ -25,7 +25,7 @@ module _ (bytes : List ℕ) (at v d c : ℕ) (r : Line) (says : saidRounds bytes
   pub rounds-found : {last place : ℕ} {reading : Reading} → r ≡ Found last place
       → reading ≡ fromEnd narrow v d c (take (v * (d + 1)) (collect 0 (drop at bytes))) (drop place bytes) → reading ≡ fromRounds narrow v d c (drop at bytes)
   unfolding fromRounds
-  rounds-found {place} {reading} e h = go (linesAt 6 v (roundLine narrow d) (drop at bytes)) refl (sym says ∙ ap (saidRounds bytes) e)
+  rounds-found {place} {reading} e h = go (linesAt 6 v (roundLine narrow d) (drop at bytes)) refl (sym says ∙ ap (saidRoundLines bytes) e)
     where
       go : (o : Outcome) → linesAt 6 v (roundLine narrow d) (drop at bytes) ≡ o → bare o ≡ found [] (drop place bytes)
           → reading ≡ readingThen o (λ cs rest. fromEnd narrow v d c cs rest)

@@ -55,6 +55,6 @@ bare (fault number line) = fault number line
 bare (found ns rest) = found [] rest
 
 -- what the reading of the rounds tells: a refusal; or where the line after them starts
-abbrev pub saidRounds : List ℕ → Line → Outcome
-saidRounds bytes (line.Refused number at) = fault number at
-saidRounds bytes (line.Found last next) = found [] (drop next bytes)
+abbrev pub saidRoundLines : List ℕ → Line → Outcome
+saidRoundLines bytes (line.Refused number at) = fault number at
+saidRoundLines bytes (line.Found last next) = found [] (drop next bytes)

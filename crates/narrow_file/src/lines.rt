@@ -7,7 +7,7 @@ ghost use Rattle.layout.specs.Line.{lineAt};
 ghost use Rattle.layout.specs.Reading.{reading, fromEdition, fromField, fromVars, fromDegree, fromClaim, fromRounds, fromEnd, linesAt, roundLine};
 ghost use Rattle.file_line.specs.OneLine.{said, brief, lineWanted};
 ghost use Rattle.narrow_file.specs.Narrow.{narrow};
-ghost use Rattle.narrow_file.specs.Passes.{oneNumber, saidJudged, collect, saidRounds, bare};
+ghost use Rattle.narrow_file.specs.Passes.{oneNumber, saidJudged, collect, saidRoundLines, bare};
 use file_line::line;
 use file_line::line::Line;
 use file_line::line::Wanted;
@@ -89,7 +89,7 @@ fn from_end(bytes: &[u8], at: usize, vars: u32, degree: u32, claim: u32, rounds:
 // The rounds, each on a line of its own: where the line after them starts.
 fn rounds_at(bytes: &[u8], at: usize, vars: u32, degree: u32) -> Line
     requires { ⌜ vars ≤ maxVars ⌝ }
-    ensures { λ r. ⌜ saidRounds (now (bytes .entry)) r ≡ bare (linesAt 6 vars (roundLine narrow degree) (drop at (now (bytes .entry)))) ⌝ }
+    ensures { λ r. ⌜ saidRoundLines (now (bytes .entry)) r ≡ bare (linesAt 6 vars (roundLine narrow degree) (drop at (now (bytes .entry)))) ⌝ }
 {
     let mut place = at;
     let mut j: u32 = 0;

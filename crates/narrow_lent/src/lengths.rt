@@ -1,4 +1,4 @@
-// How long the lists are that an entry is lent (document 01, "What is offered"). Every function takes every input.
+// How long the lists are that an entry is lent (document 01, "Terms"). Every function takes every input.
 ghost use mathlib.Core.Path.{_≡_};
 ghost use Prim.Native.Nat.{_^_, min};
 ghost use Rattle.refusals.specs.Limits.{maxVars};

@@ -11,7 +11,7 @@ use crate::refusals::{messages_length, MOST_DEGREE, MOST_VARS};
 /// The lines of a file, without their ends.
 pub type Lines = Vec<String>;
 
-/// Document 01's "One whole file".
+/// The first file of document 01, "Proof file".
 pub fn documents_file() -> Lines {
     let text = "sumproof=1 field=2147483647 vars=2 degree=2 claim=6 \
                 round=4,0,2147483645 round=2147483629,30,2147483639 end=2";
