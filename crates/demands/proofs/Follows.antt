@@ -46,7 +46,8 @@ unfolding SettledAtP EveryAnswerAtP
 settled-at-p vars degree tables claim challenges messages = (
   checkerAnswer p vars degree tables claim challenges messages,
   every-answer-at-p vars degree tables claim challenges messages (checkerAnswer p vars degree tables claim challenges messages) .0 refl,
-  λ (b : Answer Verdict) (r : Reason vars degree tables claim challenges messages b). sym (every-answer-at-p vars degree tables claim challenges messages b .1 r),
+  λ (b : Answer Verdict) (r : Reason vars degree tables claim challenges messages b).
+      sym (every-answer-at-p vars degree tables claim challenges messages b .1 r),
 )
 
 -- numbers that cannot differ are equal

@@ -26,7 +26,8 @@ use Rattle.narrow_field.specs.Narrow.{p}
 use Rattle.narrow_file.specs.Narrow.{narrow, readAnswer, after}
 use Rattle.narrow_file.specs.Example.{wholeFile}
 use Rattle.demands.specs.Demands.{messageAt, polynomialAt, LuckyAtP, ProverWritesAtP, ProverKeepsAtP, ReaderKeepsAtP, ReadsExactlyAtP}
-use Rattle.demands.specs.Follows.{Reason, SettledAtP, Unlucky, NeverMoreAtP, LedgerAtP, HonestExactlyAtP, EndToEndAtP, NoneExactlyAtP, ReadBackAtP, OneContentAtP}
+use Rattle.demands.specs.Follows.{Reason, SettledAtP, Unlucky, NeverMoreAtP, LedgerAtP, HonestExactlyAtP, EndToEndAtP}
+use Rattle.demands.specs.Follows.{NoneExactlyAtP, ReadBackAtP, OneContentAtP}
 use Rattle.demands.specs.Stepwise.{StepKeepsAtP, DoubtedAlikeAtP, StepsFollowAtP, ClosingFollowsAtP, StepsAgreeAtP, RoundsAgreeAtP}
 use Rattle.demands.specs.Worked.{t, u, ones, proof, lie, CountIsMet, leftOf, clearedOf, p11, forgedState, Worked, WorkedSteps}
 use Rattle.demands.proofs.Demands.{prover-writes-at-p, prover-keeps-at-p, reader-keeps-at-p, reads-exactly-at-p}

@@ -90,13 +90,15 @@ ReadsExactlyAtP = (vars degree claim : ℕ) (messages bytes : List ℕ)
 
 unfoldable pub CompleteAtP : Type 0
 CompleteAtP = (vars degree : ℕ) (tables challenges : List ℕ) → first (valueRules p vars degree tables challenges) ≡ 0
-    → checkerAnswer p vars degree tables (trueSum p (tablesOf vars degree tables) vars) challenges (join (truePolynomials p (tablesOf vars degree tables) challenges))
+    → checkerAnswer p vars degree tables (trueSum p (tablesOf vars degree tables) vars) challenges
+    (join (truePolynomials p (tablesOf vars degree tables) challenges))
     ≡ given accepted
 
 unfoldable pub ProverAcceptedAtP : Type 0
 ProverAcceptedAtP = (vars degree : ℕ) (tables challenges messages scratch : List ℕ)
     → proverAnswer p vars degree tables challenges messages scratch ≡ given tt → length messages ≡ messagesLength vars degree
-    → checkerAnswer p vars degree tables (trueSum p (tablesOf vars degree tables) vars) challenges (messagesAfter p vars degree tables challenges messages scratch)
+    → checkerAnswer p vars degree tables (trueSum p (tablesOf vars degree tables) vars) challenges
+    (messagesAfter p vars degree tables challenges messages scratch)
     ≡ given accepted
 
 -- round j, counted from 0, was lucky: its message differs from the round's true polynomial and agrees with it at the round's challenge; and of

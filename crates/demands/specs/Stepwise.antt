@@ -41,10 +41,12 @@ ClosingFollowsAtP = (vars degree claim : ℕ) (inputs : List Input) (v : ℕ) (a
 unfoldable pub StepsAgreeAtP : Type 0
 StepsAgreeAtP = (vars degree : ℕ) (tables : List ℕ) (claim : ℕ) (challenges messages : List ℕ)
     → first (checkerRules p vars degree tables claim challenges messages) ≡ 0
-    → closing p (endOf p (fresh vars degree claim) (inputsOf challenges (messagesOf vars degree messages))) (f p (tablesOf vars degree tables) challenges) .outcome
+    → closing p (endOf p (fresh vars degree claim) (inputsOf challenges (messagesOf vars degree messages)))
+    (f p (tablesOf vars degree tables) challenges) .outcome
     ≡ checkerAnswer p vars degree tables claim challenges messages
 
 unfoldable pub RoundsAgreeAtP : Type 0
 RoundsAgreeAtP = (vars degree claim : ℕ) (challenges messages : List ℕ)
     → first (roundsRules p vars degree claim challenges messages) ≡ 0
-    → given (roundsBy (endOf p (fresh vars degree claim) (inputsOf challenges (messagesOf vars degree messages)))) ≡ roundsAnswer p vars degree claim challenges messages
+    → given (roundsBy (endOf p (fresh vars degree claim) (inputsOf challenges (messagesOf vars degree messages))))
+    ≡ roundsAnswer p vars degree claim challenges messages

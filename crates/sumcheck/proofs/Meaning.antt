@@ -11,7 +11,8 @@ use Rattle.arithmetic.proofs.Modulo.{mul-one-mod, mul-mod-left, mul-mod-right}
 use Rattle.polynomial.specs.Elements.{Every, sum, product, countFrom}
 use Rattle.polynomial.proofs.Lists.{every}
 use Rattle.sumcheck.specs.Function.{trueSum}
-use Rattle.sumcheck.specs.Meaning.{total, multiplied, productAt, plainSum, Bounded, ManyTables, OneTable, TotalItself, CallersRule, ValueIsSum, NoOther, AddsUp}
+use Rattle.sumcheck.specs.Meaning.{total, multiplied, productAt, plainSum, Bounded}
+use Rattle.sumcheck.specs.Meaning.{ManyTables, OneTable, TotalItself, CallersRule, ValueIsSum, NoOther, AddsUp}
 use Rattle.sumcheck.proofs.Corners.{count-length}
 use Rattle.sumcheck.proofs.Halves.{column, sum-columns}
 use Rattle.sumcheck.proofs.TruePolynomial.{polynomial-value, polynomial-unique, polynomial-sum}
