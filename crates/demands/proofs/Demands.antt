@@ -1,34 +1,38 @@
 -- The demands at p (specs/Demands): the laws over any modulus, with p and its primality put in. What a lucky round is said of vars and degree, not of
 -- the lengths of lists. Assumes nothing.
-use mathlib.Core.Path.{_≡_, refl, sym, ap, ap₂, subst, _∙_}
-use mathlib.Core.List.{List, []}
-use Prim.Native.Nat.{ℕ, suc, _+_, _-_, _^_, _≤_, _<_}
+use mathlib.Core.Path.{_≡_, refl, sym, ap, subst, _∙_}
+use mathlib.Core.Logic.{_↔_}
+use mathlib.Core.Bool.{Bool, true, false}
+use mathlib.Core.List.{List}
+use Prim.Native.Nat.{ℕ, suc, _+_, _-_, _*_, _^_, _≤_}
 use native.Mathlib.Omega.{arith}
+use lib.Dec.{ltb}
 use lib.ListN.{length, take, getD}
+use borrow.Author.Tests.{ltb-false, le-ltb}
 use Rattle.arithmetic.proofs.Mersenne.{prime-31}
-use Rattle.refusals.specs.First.{given, first}
+use Rattle.refusals.proofs.First.{choose-true, choose-false}
 use Rattle.refusals.proofs.Order.{decided-given}
 use Rattle.polynomial.specs.Elements.{Every, Elements, Distinct}
 use Rattle.polynomial.specs.Polynomial.{value}
-use Rattle.sumcheck.specs.Function.{trueSum}
 use Rattle.sumcheck.specs.TruePolynomial.{truePolynomial}
-use Rattle.sumcheck.specs.Protocol.{accepted}
 use Rattle.sumcheck.specs.Lent.{tablesOf, messagesOf}
-use Rattle.sumcheck.specs.Entries.{proverRules, checkerAnswer}
+use Rattle.sumcheck.specs.Entries.{proverRules}
 use Rattle.sumcheck.specs.Demands.{Lucky}
 use Rattle.sumcheck.specs.Proving.{ProverKeeps, ProverWrites}
-use Rattle.sumcheck.specs.Checker.{AcceptsExactly, RejectsFirst, RefusesFirst, AnswerSound, AnswerComplete, ProverAccepted, AnswerCertain}
+use Rattle.sumcheck.specs.Checker.{AcceptsExactly, RejectsFirst, RefusesFirst, AnswerSound, AnswerComplete, ProverAccepted, AnswerCertain, WithoutTables}
 use Rattle.sumcheck.proofs.Laid.{parts-count}
 use Rattle.sumcheck.proofs.Entries.{checker-lent}
 use Rattle.sumcheck.proofs.Proving.{prover-keeps, prover-writes}
 use Rattle.sumcheck.proofs.Checker.{accepts-exactly, rejects-first, refuses-first, answer-sound, answer-certain}
+use Rattle.sumcheck.proofs.WithoutTables.{without-tables}
 use Rattle.sumcheck.proofs.TrueClaim.{answer-complete, prover-accepted}
-use Rattle.layout.specs.Reading.{Reading}
+use Rattle.layout.specs.Reading.{Reading, file, refusedAt, reading}
+use Rattle.layout.specs.File.{fileOf, FileParts}
 use Rattle.layout.proofs.Exact.{exactly}
 use Rattle.narrow_field.specs.Narrow.{p}
-use Rattle.narrow_file.specs.Narrow.{narrow, after}
-use Rattle.demands.specs.Demands.{RefusesFirstAtP, ProverKeepsAtP, ReaderKeepsAtP, ProverWritesAtP, AcceptsExactlyAtP, RejectsFirstAtP, ReadsExactlyAtP}
-use Rattle.demands.specs.Demands.{messageAt, CompleteAtP, ProverAcceptedAtP, LuckyAtP, SoundAtP, CertainAtP}
+use Rattle.narrow_file.specs.Narrow.{narrow, withRoom, readAnswer, after}
+use Rattle.demands.specs.Demands.{RefusesFirstAtP, ProverKeepsAtP, ReaderKeepsAtP, ProverWritesAtP, AcceptsExactlyAtP, RejectsFirstAtP}
+use Rattle.demands.specs.Demands.{WithoutTablesAtP, ReadsExactlyAtP, ReaderWritesAtP, messageAt, CompleteAtP, ProverAcceptedAtP, LuckyAtP, SoundAtP, CertainAtP}
 
 pub refuses-first-at-p : RefusesFirstAtP
 unfolding RefusesFirstAtP RefusesFirst
@@ -54,9 +58,43 @@ pub rejects-first-at-p : RejectsFirstAtP
 unfolding RejectsFirstAtP RejectsFirst
 rejects-first-at-p = rejects-first p
 
+pub without-tables-at-p : WithoutTablesAtP
+unfolding WithoutTablesAtP WithoutTables
+without-tables-at-p = without-tables p
+
+-- what is read into a list of so many places is read, and has room there
+module _ (v d c : ℕ) (ms : List ℕ) (places : ℕ) where
+  has-room : (r : Reading) → withRoom places r ≡ file v d c ms → (r ≡ file v d c ms) × (v * (d + 1) ≤ places)
+  has-room (refusedAt number line) h = absurd (let z : _≡_ {A = ℕ} 0 1 = cc in omega arith)
+  has-room (file v' d' c' ms') h = go (ltb places (v' * (d' + 1))) refl
+    where
+      go : (t : Bool) → ltb places (v' * (d' + 1)) ≡ t → (file v' d' c' ms' ≡ file v d c ms) × (v * (d + 1) ≤ places)
+      go true t =
+          let e : refusedAt 4 0 ≡ file v d c ms = sym (choose-true (refusedAt 4 0) (file v' d' c' ms') t) ∙ h in
+          absurd (let z : _≡_ {A = ℕ} 0 1 = cc in omega arith)
+      go false t =
+          let e : file v' d' c' ms' ≡ file v d c ms = sym (choose-false (refusedAt 4 0) (file v' d' c' ms') t) ∙ h in
+          let vars : v' ≡ v = cc in
+          let degree : d' ≡ d = cc in
+          (e, subst (λ (x : ℕ). x * (d + 1) ≤ places) vars (subst (λ (x : ℕ). v' * (x + 1) ≤ places) degree (ltb-false places (v' * (d' + 1)) t)))
+
 pub reads-exactly-at-p : ReadsExactlyAtP
-unfolding ReadsExactlyAtP
-reads-exactly-at-p vars degree claim messages bytes = exactly narrow vars degree claim messages bytes (λ (k : ℕ) (l : 1 ≤ k). omega arith)
+unfolding ReadsExactlyAtP readAnswer
+reads-exactly-at-p v d c ms bytes places = (
+  λ (h : withRoom places (reading narrow bytes) ≡ file v d c ms).
+      let r = has-room v d c ms places (reading narrow bytes) h in
+      let e = its .0 (r .0) in
+      (e .0, e .1, r .1),
+  λ (w : (bytes ≡ fileOf narrow v d c ms) × FileParts narrow v d c ms × (v * (d + 1) ≤ places)).
+      ap (withRoom places) (its .1 (w .0, w .1)) ∙ choose-false (refusedAt 4 0) (file v d c ms) (le-ltb places (v * (d + 1)) (w .2)),
+)
+  where
+    its : (reading narrow bytes ≡ file v d c ms) ↔ ((bytes ≡ fileOf narrow v d c ms) × FileParts narrow v d c ms)
+    its = exactly narrow v d c ms bytes (λ (k : ℕ) (l : 1 ≤ k). omega arith)
+
+pub reader-writes-at-p : ReaderWritesAtP
+unfolding ReaderWritesAtP
+reader-writes-at-p vars degree claim messages bytes list e = ap (λ (a : Reading). after a list) e
 
 pub complete-at-p : CompleteAtP
 unfolding CompleteAtP AnswerComplete

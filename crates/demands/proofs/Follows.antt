@@ -1,10 +1,10 @@
 -- What follows from the demands at p (specs/Follows). Each proof cites a demand as specs/Demands states it, and not the law behind it, so that a weaker
 -- demand does not prove it. Assumes nothing.
-use mathlib.Core.Path.{_≡_, refl, sym, ap, subst, _∙_}
+use mathlib.Core.Path.{_≡_, refl, sym, ap, ap₂, _∙_}
 use mathlib.Core.Logic.{_↔_}
 use mathlib.Core.Bool.{Bool, true, false}
 use mathlib.Core.List.{List, [], _∷_, append-nil}
-use Prim.Native.Nat.{ℕ, suc, _*_, _^_, _%_, _<_}
+use Prim.Native.Nat.{ℕ, suc, _+_, _-_, _*_, _^_, _%_, _≤_, _<_}
 use native.Mathlib.Nat.{mod-eq-of-lt}
 use native.Mathlib.Omega.{arith}
 use lib.Dec.{eqb}
@@ -14,26 +14,29 @@ use borrow.Author.Tests.{eqb-true, eqb-false}
 use Rattle.refusals.specs.First.{Answer, refused, given, first}
 use Rattle.refusals.proofs.Order.{untested, neither-left, neither-right, decided-given}
 use Rattle.polynomial.specs.Elements.{Every, Elements, Distinct}
-use Rattle.sumcheck.specs.Function.{trueSum}
-use Rattle.sumcheck.specs.TruePolynomial.{truePolynomials}
+use Rattle.sumcheck.specs.Function.{f, trueSum}
+use Rattle.sumcheck.specs.TruePolynomial.{truePolynomial, truePolynomials}
 use Rattle.sumcheck.specs.Meaning.{total, OneTable}
-use Rattle.sumcheck.specs.Protocol.{Verdict, accepted, rejected}
+use Rattle.sumcheck.specs.Protocol.{reached, Verdict, accepted, rejected}
 use Rattle.sumcheck.specs.Lent.{join, tablesLength, messagesLength, tablesOf, messagesOf, notLong, parts}
-use Rattle.sumcheck.specs.Entries.{sumRules, valueRules, messagesAfter, checkerRules, checkerAnswer}
+use Rattle.sumcheck.specs.Entries.{sumRules, valueRules, proverAnswer, messagesAfter, scratchAfter, checkerRules, checkerAnswer, roundsAnswer}
+use Rattle.sumcheck.specs.Steps.{State, step}
 use Rattle.sumcheck.proofs.Meaning.{one-table}
 use Rattle.sumcheck.proofs.Proving.{proof-round}
 use Rattle.sumcheck.proofs.Completeness.{claim-last}
 use Rattle.sumcheck.proofs.Unrefused.{is-long}
-use Rattle.layout.specs.Reading.{file, reading}
+use Rattle.layout.specs.Reading.{file, refusedAt}
 use Rattle.layout.specs.File.{fileOf, FileParts}
 use Rattle.narrow_field.specs.Narrow.{p}
-use Rattle.narrow_file.specs.Narrow.{narrow}
-use Rattle.demands.specs.Demands.{messageAt, polynomialAt, RefusesFirstAtP, AcceptsExactlyAtP, RejectsFirstAtP, ReadsExactlyAtP}
-use Rattle.demands.specs.Demands.{CompleteAtP, ProverAcceptedAtP, LuckyAtP, SoundAtP, CertainAtP}
+use Rattle.narrow_file.specs.Narrow.{narrow, readAnswer, after}
+use Rattle.demands.specs.Demands.{messageAt, RefusesFirstAtP, ProverKeepsAtP, ReaderKeepsAtP, ProverWritesAtP, AcceptsExactlyAtP, RejectsFirstAtP}
+use Rattle.demands.specs.Demands.{WithoutTablesAtP, ReadsExactlyAtP, CompleteAtP, ProverAcceptedAtP, SoundAtP, CertainAtP}
+use Rattle.demands.specs.Stepwise.{StepKeepsAtP, StepsAgreeAtP}
 use Rattle.demands.specs.Follows.{Reason, EveryAnswerAtP, SettledAtP, Unlucky, BelievedAtP, NeverMoreAtP, LedgerAtP, HonestExactlyAtP, EndToEndAtP}
-use Rattle.demands.specs.Follows.{NoneExactlyAtP, ReadBackAtP, OneContentAtP}
-use Rattle.demands.proofs.Demands.{refuses-first-at-p, accepts-exactly-at-p, rejects-first-at-p, reads-exactly-at-p}
-use Rattle.demands.proofs.Demands.{complete-at-p, prover-accepted-at-p, sound-at-p, certain-at-p}
+use Rattle.demands.specs.Follows.{RoundsAlikeAtP, AskedAgainAtP, ToldValueAtP, StepsBelievedAtP, NoneExactlyAtP, ReadBackAtP, OneContentAtP}
+use Rattle.demands.proofs.Demands.{refuses-first-at-p, prover-keeps-at-p, reader-keeps-at-p, prover-writes-at-p, accepts-exactly-at-p, rejects-first-at-p}
+use Rattle.demands.proofs.Demands.{without-tables-at-p, reads-exactly-at-p, complete-at-p, prover-accepted-at-p, sound-at-p, certain-at-p}
+use Rattle.demands.proofs.Stepwise.{step-keeps-at-p, steps-agree-at-p}
 
 pub every-answer-at-p : EveryAnswerAtP
 unfolding EveryAnswerAtP RefusesFirstAtP AcceptsExactlyAtP RejectsFirstAtP
@@ -133,12 +136,75 @@ none-exactly-at-p degree tables claim = (
 pub read-back-at-p : ReadBackAtP
 unfolding ReadBackAtP ReadsExactlyAtP
 read-back-at-p vars degree claim messages = (
-  λ (bytes : List ℕ) (e : reading narrow bytes ≡ file vars degree claim messages). sym (reads-exactly-at-p vars degree claim messages bytes .0 e .0),
-  λ (w : FileParts narrow vars degree claim messages).
-      reads-exactly-at-p vars degree claim messages (fileOf narrow vars degree claim messages) .1 (refl, w),
+  λ (bytes : List ℕ) (places : ℕ) (e : readAnswer bytes places ≡ file vars degree claim messages).
+      sym (reads-exactly-at-p vars degree claim messages bytes places .0 e .0),
+  λ (w : FileParts narrow vars degree claim messages) (places : ℕ) (l : vars * (degree + 1) ≤ places).
+      reads-exactly-at-p vars degree claim messages (fileOf narrow vars degree claim messages) places .1 (refl, w, l),
 )
 
 pub one-content-at-p : OneContentAtP
 unfolding OneContentAtP ReadBackAtP
 one-content-at-p v w d e c b ms ns x y same =
-    sym (read-back-at-p v d c ms .1 x) ∙ (ap (reading narrow) same ∙ read-back-at-p w e b ns .1 y)
+    let places = v * (d + 1) + w * (e + 1) in
+    sym (read-back-at-p v d c ms .1 x places (omega arith))
+    ∙ (ap (λ (bytes : List ℕ). readAnswer bytes places) same ∙ read-back-at-p w e b ns .1 y places (omega arith))
+
+pub rounds-alike-at-p : RoundsAlikeAtP
+unfolding RoundsAlikeAtP ProverWritesAtP
+rounds-alike-at-p vars degree tables challenges others messages scratch g h =
+    let a = prover-writes-at-p vars degree tables challenges messages scratch g in
+    let b = prover-writes-at-p vars degree tables others messages scratch h in (
+      λ (j : ℕ) (l : j < vars) (e : take j challenges ≡ take j others).
+          a .0 j l ∙ (ap (λ (r : List ℕ). truePolynomial p (tablesOf vars degree tables) r (vars - suc j)) e ∙ sym (b .0 j l)),
+      a .1 ∙ sym (b .1),
+      a .2 ∙ sym (b .2),
+    )
+
+prover-again : (vars degree : ℕ) (tables challenges messages scratch : List ℕ) (number : ℕ)
+    → proverAnswer p vars degree tables challenges messages scratch ≡ refused number
+    → proverAnswer p vars degree tables challenges (messagesAfter p vars degree tables challenges messages scratch)
+    (scratchAfter p vars degree tables challenges messages scratch)
+    ≡ refused number
+unfolding ProverKeepsAtP
+prover-again vars degree tables challenges messages scratch number h =
+    let k = prover-keeps-at-p vars degree tables challenges messages scratch number h in
+    ap₂ (λ (a b : List ℕ). proverAnswer p vars degree tables challenges a b) (k .0) (k .1) ∙ h
+
+reader-again : (bytes list : List ℕ) (number line : ℕ) → readAnswer bytes (length list) ≡ refusedAt number line
+    → readAnswer bytes (length (after (readAnswer bytes (length list)) list)) ≡ refusedAt number line
+unfolding ReaderKeepsAtP
+reader-again bytes list number line h = ap (λ (l : List ℕ). readAnswer bytes (length l)) (reader-keeps-at-p bytes list number line h) ∙ h
+
+step-again : (s : State) (message : List ℕ) (challenge number : ℕ) → step p s message challenge .outcome ≡ refused number
+    → step p (step p s message challenge .state) message challenge .outcome ≡ refused number
+unfolding StepKeepsAtP
+step-again s message challenge number h = ap (λ (x : State). step p x message challenge .outcome) (step-keeps-at-p s message challenge number h) ∙ h
+
+pub asked-again-at-p : AskedAgainAtP
+asked-again-at-p = record { prover = prover-again; reader = reader-again; stepper = step-again }
+
+told-believed : (vars degree : ℕ) (tables : List ℕ) (claim : ℕ) (challenges messages : List ℕ) (v : ℕ)
+    → first (valueRules p vars degree tables challenges) ≡ 0
+    → roundsAnswer p vars degree claim challenges messages ≡ given (reached v) → v ≡ f p (tablesOf vars degree tables) challenges
+    → Unlucky vars degree tables challenges messages → claim ≡ trueSum p (tablesOf vars degree tables) vars
+unfolding BelievedAtP WithoutTablesAtP
+told-believed vars degree tables claim challenges messages v z h e none =
+    believed-at-p vars degree tables claim challenges messages
+    (without-tables-at-p vars degree tables claim challenges messages z .0 (h ∙ ap (λ (x : ℕ). given (reached x)) e)) none
+
+told-honest : (vars degree : ℕ) (tables challenges : List ℕ) → first (valueRules p vars degree tables challenges) ≡ 0 →
+    let ts = tablesOf vars degree tables in
+    roundsAnswer p vars degree (trueSum p ts vars) challenges (join (truePolynomials p ts challenges)) ≡ given (reached (f p ts challenges))
+unfolding CompleteAtP WithoutTablesAtP
+told-honest vars degree tables challenges z =
+    let ts = tablesOf vars degree tables in
+    without-tables-at-p vars degree tables (trueSum p ts vars) challenges (join (truePolynomials p ts challenges)) z .1
+    (complete-at-p vars degree tables challenges z)
+
+pub told-value-at-p : ToldValueAtP
+told-value-at-p = record { believed = told-believed; honest = told-honest }
+
+pub steps-believed-at-p : StepsBelievedAtP
+unfolding StepsBelievedAtP BelievedAtP StepsAgreeAtP
+steps-believed-at-p vars degree tables claim challenges messages z h none =
+    believed-at-p vars degree tables claim challenges messages (sym (steps-agree-at-p vars degree tables claim challenges messages z) ∙ h) none

@@ -7,14 +7,16 @@ use Prim.Native.Nat.{ℕ, zero, suc, _<_}
 use native.Mathlib.Omega.{arith}
 use lib.ListN.{length, drop, getD, replicate}
 use Rattle.arithmetic.specs.Modulo.{pow}
+use Rattle.arithmetic.proofs.Mersenne.{prime-31}
 use Rattle.refusals.specs.First.{Answer, refused, given, first}
 use Rattle.polynomial.specs.Polynomial.{value}
+use Rattle.polynomial.proofs.Roots.{agree-few}
 use Rattle.sumcheck.specs.Corners.{corners}
 use Rattle.sumcheck.specs.Function.{f, trueSum}
 use Rattle.sumcheck.specs.TruePolynomial.{truePolynomial, truePolynomials}
 use Rattle.sumcheck.specs.Protocol.{reached, Verdict, accepted, rejected}
 use Rattle.sumcheck.specs.Lent.{parts, join, tablesOf, messagesOf}
-use Rattle.sumcheck.specs.Entries.{messagesAfter, checkerRules, checkerAnswer}
+use Rattle.sumcheck.specs.Entries.{messagesAfter, checkerRules, checkerAnswer, roundsAnswer}
 use Rattle.sumcheck.specs.Checker.{SumAgrees, atSum, atFinal}
 use Rattle.sumcheck.specs.Steps.{fresh, fitted, rejects, opening, step, closing}
 use Rattle.sumcheck.specs.Sequences.{endOf, outcomesOf, givens, inputsOf, roundsBy}
@@ -25,14 +27,14 @@ use Rattle.layout.specs.File.{fileOf, FileParts}
 use Rattle.narrow_field.specs.Narrow.{p}
 use Rattle.narrow_file.specs.Narrow.{narrow, readAnswer, after}
 use Rattle.narrow_file.specs.Example.{wholeFile}
-use Rattle.demands.specs.Demands.{messageAt, polynomialAt, LuckyAtP, ProverWritesAtP, ProverKeepsAtP, ReaderKeepsAtP, ReadsExactlyAtP}
+use Rattle.demands.specs.Demands.{messageAt, polynomialAt, LuckyAtP, ProverWritesAtP, ProverKeepsAtP, ReaderKeepsAtP, ReadsExactlyAtP, ReaderWritesAtP}
 use Rattle.demands.specs.Follows.{Reason, SettledAtP, Unlucky, NeverMoreAtP, LedgerAtP, HonestExactlyAtP, EndToEndAtP}
-use Rattle.demands.specs.Follows.{NoneExactlyAtP, ReadBackAtP, OneContentAtP}
+use Rattle.demands.specs.Follows.{RoundsAlikeAtP, StepsBelievedAtP, NoneExactlyAtP, ReadBackAtP, OneContentAtP}
 use Rattle.demands.specs.Stepwise.{StepKeepsAtP, DoubtedAlikeAtP, StepsFollowAtP, ClosingFollowsAtP, StepsAgreeAtP, RoundsAgreeAtP}
 use Rattle.demands.specs.Worked.{t, u, ones, proof, lie, CountIsMet, leftOf, clearedOf, p11, forgedState, Worked, WorkedSteps}
-use Rattle.demands.proofs.Demands.{prover-writes-at-p, prover-keeps-at-p, reader-keeps-at-p, reads-exactly-at-p}
+use Rattle.demands.proofs.Demands.{prover-writes-at-p, prover-keeps-at-p, reader-keeps-at-p, reads-exactly-at-p, reader-writes-at-p}
 use Rattle.demands.proofs.Follows.{settled-at-p, ledger-at-p, never-more-at-p, honest-exactly-at-p, end-to-end-at-p, none-exactly-at-p, read-back-at-p}
-use Rattle.demands.proofs.Follows.{one-content-at-p}
+use Rattle.demands.proofs.Follows.{one-content-at-p, rounds-alike-at-p, asked-again-at-p, told-value-at-p, steps-believed-at-p}
 use Rattle.demands.proofs.Stepwise.{step-keeps-at-p, doubted-alike-at-p, steps-follow-at-p, closing-follows-at-p, steps-agree-at-p, rounds-agree-at-p}
 
 -- lists whose second members differ
@@ -104,10 +106,26 @@ ledger : (claim : ℕ) (challenges messages : List ℕ) → checkerAnswer p 2 1 
 unfolding LedgerAtP
 ledger claim challenges messages a none = ledger-at-p 2 t claim challenges messages a none .1 (omega arith)
 
-not-both : LuckyAtP 2 1 t (0 ∷ 9 ∷ []) lie 0 → value p (7 ∷ 2147483644 ∷ []) 5 ≡ value p (truePolynomial p (t ∷ []) [] 1) 5 → ⊥
+-- the message 7 - 3X and the true polynomial 7 - 4X of P10's round 1 agree at one element only
+lucky : LuckyAtP 2 1 t (0 ∷ 9 ∷ []) lie 0
+unfolding corners pow parts
+lucky =
+    record {
+      round = omega arith;
+      differs = other;
+      agrees = refl;
+      few = λ xs u d a.
+          let l = agree-few p prime-31 (7 ∷ 2147483644 ∷ []) (7 ∷ 2147483643 ∷ []) xs refl (omega arith, (omega arith, tt)) (omega arith, (omega arith, tt)) other u d a in
+          omega arith;
+    }
+  where
+    other : _≡_ {A = List ℕ} (7 ∷ 2147483644 ∷ []) (7 ∷ 2147483643 ∷ []) → ⊥
+    other = apart (7 ∷ 2147483644 ∷ []) (7 ∷ 2147483643 ∷ []) (λ e. omega arith)
+
+not-both : value p (7 ∷ 2147483644 ∷ []) 5 ≡ value p (truePolynomial p (t ∷ []) [] 1) 5 → ⊥
 unfolding NeverMoreAtP corners pow parts
-not-both l e =
-    never-more-at-p 2 1 t (0 ∷ 9 ∷ []) lie 0 l (0 ∷ 5 ∷ []) refl (omega arith, (omega arith, tt)) ((λ z. omega arith, tt), (tt, tt)) (l .agrees, (e, tt))
+not-both e =
+    never-more-at-p 2 1 t (0 ∷ 9 ∷ []) lie 0 lucky (0 ∷ 5 ∷ []) refl (omega arith, (omega arith, tt)) ((λ z. omega arith, tt), (tt, tt)) (lucky .agrees, (e, tt))
 
 -- P9's tables with the true polynomials: a claim that is accepted is 6
 honest : (claim : ℕ) → let proofs = join (truePolynomials p (tablesOf 2 2 (u ++ t)) (3 ∷ 1 ∷ [])) in
@@ -154,17 +172,33 @@ none : (claim : ℕ) → (checkerAnswer p 0 2 (5 ∷ 7 ∷ []) claim [] [] ≡ g
 unfolding NoneExactlyAtP
 none = none-exactly-at-p 2 (5 ∷ 7 ∷ [])
 
--- the document's file is read
-whole-read : reading narrow wholeFile ≡ file 2 2 6 proof
-whole-read = unfold reading fromEdition fromField fromVars fromDegree fromClaim fromRounds fromEnd linesAt lineAt form numbersOf decimal digits in refl
+-- the document's file is read into a list of six places, and of seven
+whole-read : (readAnswer wholeFile 6 ≡ file 2 2 6 proof) × (readAnswer wholeFile 7 ≡ file 2 2 6 proof)
+whole-read = unfold readAnswer reading fromEdition fromField fromVars fromDegree fromClaim fromRounds fromEnd linesAt lineAt form numbersOf decimal digits in (refl, refl)
 
 written : fileOf narrow 2 2 6 proof ≡ wholeFile
 unfolding ReadBackAtP
-written = read-back-at-p 2 2 6 proof .0 wholeFile whole-read
+written = read-back-at-p 2 2 6 proof .0 wholeFile 6 (whole-read .0)
+
+read-into : after (readAnswer wholeFile 7) (replicate 7 5) ≡ proof ++ 5 ∷ []
+unfolding ReaderWritesAtP
+read-into = reader-writes-at-p 2 2 6 proof wholeFile (replicate 7 5) (whole-read .1)
+
+told : roundsAnswer p 2 2 6 (3 ∷ 1 ∷ []) (join (truePolynomials p (tablesOf 2 2 (u ++ t)) (3 ∷ 1 ∷ []))) ≡ given (reached 4)
+told =
+    ap (λ (c : ℕ). roundsAnswer p 2 2 c (3 ∷ 1 ∷ []) (join (truePolynomials p (tablesOf 2 2 (u ++ t)) (3 ∷ 1 ∷ [])))) (sym six-sum)
+    ∙ (told-value-at-p .honest 2 2 (u ++ t) (3 ∷ 1 ∷ []) refl ∙ ap (λ (v : ℕ). given (reached v)) four)
+  where
+    four : f p (tablesOf 2 2 (u ++ t)) (3 ∷ 1 ∷ []) ≡ 4
+    four = unfold corners pow parts in refl
+
+alike : messageAt 2 2 (leftOf (replicate 9 6)) 0 ≡ messageAt 2 2 (messagesAfter p 2 2 (u ++ t) (8 ∷ 9 ∷ []) sevenFives (replicate 9 6)) 0
+unfolding RoundsAlikeAtP
+alike = rounds-alike-at-p 2 2 (u ++ t) (3 ∷ 1 ∷ []) (8 ∷ 9 ∷ []) sevenFives (replicate 9 6) refl refl .0 0 (omega arith) refl
 
 no-other : (v d c : ℕ) (ms : List ℕ) → FileParts narrow v d c ms → fileOf narrow v d c ms ≡ wholeFile → file v d c ms ≡ file 2 2 6 proof
 unfolding OneContentAtP ReadsExactlyAtP
-no-other v d c ms w e = one-content-at-p v 2 d 2 c 6 ms proof w (reads-exactly-at-p 2 2 6 proof wholeFile .0 whole-read .1) (e ∙ sym written)
+no-other v d c ms w e = one-content-at-p v 2 d 2 c 6 ms proof w (reads-exactly-at-p 2 2 6 proof wholeFile 6 .0 (whole-read .0) .1) (e ∙ sym written)
 
 pub worked : Worked
 worked =
@@ -172,6 +206,7 @@ worked =
       p11Settled = the-answer 2 1 t 11 (5 ∷ 9 ∷ []) lie (given (rejected 2)) p11-reason;
       p12Settled = the-answer 0 2 (5 ∷ 7 ∷ []) 36 [] [] (given (rejected 0)) p12-reason;
       ledger = ledger;
+      lucky = lucky;
       notBoth = not-both;
       six = honest 6 .1 (sym six-sum);
       seven = λ a. omega (arith, honest 7 .0 a, six-sum);
@@ -182,7 +217,11 @@ worked =
       cleared = after-proof .1;
       keptMessages = kept .0;
       keptScratch = kept .1;
+      readInto = read-into;
       keptList = kept-list;
+      told = told;
+      alike = alike;
+      again = asked-again-at-p .prover 2 2 (u ++ t) (3 ∷ 1 ∷ []) sevenFives (replicate 7 6) 4 refl;
       thirtyFive = none 35 .1 (refl, sym product-sum);
       thirtySix = λ a. omega (arith, none 36 .0 a .1, product-sum);
       written = written;
@@ -198,6 +237,18 @@ followed = steps-follow-at-p 2 1 11 p11
 closed : (v : ℕ) (a : Verdict) → closing p (endOf p (fresh 2 1 11) p11) v .outcome ≡ given a → a ≡ rejected 2
 unfolding ClosingFollowsAtP pow
 closed v a h = closing-follows-at-p 2 1 11 p11 v a h
+
+-- the true sum of the ledger 3, 4, 1, 2
+ten : trueSum p (tablesOf 2 1 t) 2 ≡ 10
+unfolding corners pow parts
+ten = refl
+
+stepped-ledger : (claim a b c d r s : ℕ) → first (checkerRules p 2 1 t claim (r ∷ s ∷ []) (a ∷ b ∷ c ∷ d ∷ [])) ≡ 0
+    → closing p (endOf p (fresh 2 1 claim) (inputsOf (r ∷ s ∷ []) (messagesOf 2 1 (a ∷ b ∷ c ∷ d ∷ [])))) (f p (tablesOf 2 1 t) (r ∷ s ∷ [])) .outcome
+    ≡ given accepted
+    → Unlucky 2 1 t (r ∷ s ∷ []) (a ∷ b ∷ c ∷ d ∷ []) → claim ≡ 10
+unfolding StepsBelievedAtP
+stepped-ledger claim a b c d r s z h none = steps-believed-at-p 2 1 t claim (r ∷ s ∷ []) (a ∷ b ∷ c ∷ d ∷ []) z h none ∙ ten
 
 tenth : closing p (endOf p (fresh 2 1 11) (inputsOf (0 ∷ 9 ∷ []) (messagesOf 2 1 lie))) (f p (tablesOf 2 1 t) (0 ∷ 9 ∷ [])) .outcome ≡ given accepted
 unfolding StepsAgreeAtP corners pow parts
@@ -222,6 +273,7 @@ worked-steps =
       stepped = followed .0;
       told = followed .1;
       closed = closed;
+      steppedLedger = stepped-ledger;
       tenth = tenth;
       ninth = ninth;
       keptState = kept-state;

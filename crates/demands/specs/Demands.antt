@@ -6,30 +6,33 @@
 --     ProverKeepsAtP     a refused prover leaves the message list and scratch as they were
 --     ReaderKeepsAtP     a refused reader leaves the message list as it was
 --   Demand 2, the answers are the protocol's
---     ProverWritesAtP    a prover that is not refused leaves the true polynomials round by round, the rest as it was, and 0 in scratch
+--     ProverWritesAtP    a prover that is not refused leaves the true polynomials round by round and the rest of the list as it was; the first k·2^m
+--                        places of scratch are 0, and its rest is as it was
 --     AcceptsExactlyAtP  the checker accepts exactly when nothing is refused, every sum agrees and the final value agrees
 --     RejectsFirstAtP    it rejects with a round exactly when nothing is refused and that is the first that fails
---     ReadsExactlyAtP    the reader takes exactly the files of the layout
+--     WithoutTablesAtP   the checker without tables gives the value of f exactly when the checker with tables accepts
+--     ReadsExactlyAtP    the reader takes exactly the files of the layout, where the list has room
+--     ReaderWritesAtP    a reader that takes a file leaves its coefficients, and the rest of the list as it was
 --   Demand 3, soundness
---     CompleteAtP        a true claim is accepted with the true polynomials, whatever the challenges
---     ProverAcceptedAtP  and with the messages that the prover leaves in a list of the exact length
+--     CompleteAtP        a true claim is accepted with the true polynomials, whatever the challenges, if tables and challenges are not refused
+--     ProverAcceptedAtP  and with the messages that a prover which is not refused leaves in a list of the exact length
 --     SoundAtP           a false claim that is accepted had a lucky round, which at most degree challenges could make
 --     CertainAtP         with no variables a false claim is never accepted
 use mathlib.Core.Path.{_≡_}
 use mathlib.Core.Logic.{_↔_}
 use mathlib.Core.List.{List, [], _++_}
-use Prim.Native.Nat.{ℕ, suc, _-_, _≤_, _<_}
+use Prim.Native.Nat.{ℕ, suc, _+_, _-_, _*_, _≤_, _<_}
 use lib.ListN.{length, take, drop, getD, replicate}
 use Rattle.refusals.specs.First.{refused, given, first}
 use Rattle.polynomial.specs.Elements.{Every, Elements, Distinct}
 use Rattle.polynomial.specs.Polynomial.{value}
 use Rattle.sumcheck.specs.Function.{f, trueSum}
 use Rattle.sumcheck.specs.TruePolynomial.{truePolynomial, truePolynomials}
-use Rattle.sumcheck.specs.Protocol.{accepted, rejected}
+use Rattle.sumcheck.specs.Protocol.{reached, accepted, rejected}
 use Rattle.sumcheck.specs.Lent.{join, tablesLength, messagesLength, tablesOf, messagesOf}
-use Rattle.sumcheck.specs.Entries.{valueRules, proverAnswer, messagesAfter, scratchAfter, checkerRules, checkerAnswer}
+use Rattle.sumcheck.specs.Entries.{valueRules, proverAnswer, messagesAfter, scratchAfter, checkerRules, checkerAnswer, roundsAnswer}
 use Rattle.sumcheck.specs.Checker.{claimAfter, SumsAgree, Fails}
-use Rattle.layout.specs.Reading.{file, refusedAt, reading}
+use Rattle.layout.specs.Reading.{file, refusedAt}
 use Rattle.layout.specs.File.{fileOf, FileParts}
 use Rattle.narrow_field.specs.Narrow.{p}
 use Rattle.narrow_file.specs.Narrow.{narrow, readAnswer, after}
@@ -81,10 +84,21 @@ RejectsFirstAtP = (vars degree : ℕ) (tables : List ℕ) (claim : ℕ) (challen
     ↔ ((first (checkerRules p vars degree tables claim challenges messages) ≡ 0)
     × Fails p vars (f p (tablesOf vars degree tables) challenges) claim challenges (messagesOf vars degree messages) round)
 
+unfoldable pub WithoutTablesAtP : Type 0
+WithoutTablesAtP = (vars degree : ℕ) (tables : List ℕ) (claim : ℕ) (challenges messages : List ℕ)
+    → first (valueRules p vars degree tables challenges) ≡ 0
+    → (roundsAnswer p vars degree claim challenges messages ≡ given (reached (f p (tablesOf vars degree tables) challenges)))
+    ↔ (checkerAnswer p vars degree tables claim challenges messages ≡ given accepted)
+
+-- for a lent list of so many places
 unfoldable pub ReadsExactlyAtP : Type 0
-ReadsExactlyAtP = (vars degree claim : ℕ) (messages bytes : List ℕ)
-    → (reading narrow bytes ≡ file vars degree claim messages)
-    ↔ ((bytes ≡ fileOf narrow vars degree claim messages) × FileParts narrow vars degree claim messages)
+ReadsExactlyAtP = (vars degree claim : ℕ) (messages bytes : List ℕ) (places : ℕ)
+    → (readAnswer bytes places ≡ file vars degree claim messages)
+    ↔ ((bytes ≡ fileOf narrow vars degree claim messages) × FileParts narrow vars degree claim messages × (vars * (degree + 1) ≤ places))
+
+unfoldable pub ReaderWritesAtP : Type 0
+ReaderWritesAtP = (vars degree claim : ℕ) (messages bytes list : List ℕ) → readAnswer bytes (length list) ≡ file vars degree claim messages
+    → after (readAnswer bytes (length list)) list ≡ messages ++ drop (vars * (degree + 1)) list
 
 -- Demand 3
 

@@ -2,7 +2,7 @@
 --   Demands    the three demands
 --   Stepwise   the checker in steps
 --   Follows    what follows from them for a caller
---   Worked     numbers for which they are met: no demand could say more, and none says less
+--   Worked     numbers worked out by hand for which they are met; the count of SoundAtP could not be smaller
 pub mod Demands
 pub mod Stepwise
 pub mod Follows

@@ -5,13 +5,13 @@ use mathlib.Core.Bool.{true}
 use mathlib.Core.List.{List, [], _∷_, _++_}
 use Prim.Native.Nat.{ℕ}
 use lib.ListN.{length, drop, replicate}
-use Rattle.refusals.specs.First.{Answer, refused, given}
+use Rattle.refusals.specs.First.{Answer, refused, given, first}
 use Rattle.polynomial.specs.Elements.{Every, Elements, Distinct}
 use Rattle.polynomial.specs.Polynomial.{value}
 use Rattle.sumcheck.specs.TruePolynomial.{truePolynomial, truePolynomials}
 use Rattle.sumcheck.specs.Protocol.{reached, Verdict, accepted, rejected}
 use Rattle.sumcheck.specs.Lent.{join, tablesOf, messagesOf}
-use Rattle.sumcheck.specs.Entries.{messagesAfter, scratchAfter, checkerAnswer}
+use Rattle.sumcheck.specs.Entries.{proverAnswer, messagesAfter, scratchAfter, checkerRules, checkerAnswer, roundsAnswer}
 use Rattle.sumcheck.specs.Function.{f}
 use Rattle.sumcheck.specs.Steps.{State, fresh, fitted, rejects, opening, step, closing}
 use Rattle.sumcheck.specs.Sequences.{Input, endOf, outcomesOf, givens, inputsOf, roundsBy}
@@ -80,8 +80,9 @@ pub record Worked : Type 0 where
   -- LedgerAtP: a claim for the ledger 3, 4, 1, 2 that is accepted is 10, or a round was lucky
   pub ledger : (claim : ℕ) (challenges messages : List ℕ) → checkerAnswer p 2 1 t claim challenges messages ≡ given accepted
       → Unlucky 2 1 t challenges messages → claim ≡ 10
-  -- NeverMoreAtP: P10's round 1 was lucky with challenge 0, and would not have been with 5
-  pub notBoth : LuckyAtP 2 1 t (0 ∷ 9 ∷ []) lie 0 → value p (7 ∷ 2147483644 ∷ []) 5 ≡ value p (truePolynomial p (t ∷ []) [] 1) 5 → ⊥
+  -- P10's round 1 was lucky, with challenge 0. NeverMoreAtP: so it would not have been with 5
+  pub lucky : LuckyAtP 2 1 t (0 ∷ 9 ∷ []) lie 0
+  pub notBoth : value p (7 ∷ 2147483644 ∷ []) 5 ≡ value p (truePolynomial p (t ∷ []) [] 1) 5 → ⊥
   -- HonestExactlyAtP: P9's tables with the true polynomials, claims 6 and 7
   pub six : checkerAnswer p 2 2 (u ++ t) 6 (3 ∷ 1 ∷ []) (join (truePolynomials p (tablesOf 2 2 (u ++ t)) (3 ∷ 1 ∷ []))) ≡ given accepted
   pub seven : checkerAnswer p 2 2 (u ++ t) 7 (3 ∷ 1 ∷ []) (join (truePolynomials p (tablesOf 2 2 (u ++ t)) (3 ∷ 1 ∷ []))) ≡ given accepted → ⊥
@@ -97,8 +98,17 @@ pub record Worked : Type 0 where
   -- ProverKeepsAtP: scratch one place too short
   pub keptMessages : leftOf (replicate 7 6) ≡ replicate 7 5
   pub keptScratch : clearedOf (replicate 7 6) ≡ replicate 7 6
+  -- ReaderWritesAtP: the document's file into a list with one place more
+  pub readInto : after (readAnswer wholeFile 7) (replicate 7 5) ≡ proof ++ 5 ∷ []
   -- ReaderKeepsAtP: the empty file, and any list
   pub keptList : (list : List ℕ) → after (readAnswer [] (length list)) list ≡ list
+  -- ToldValueAtP: P9 without tables, told the value 4
+  pub told : roundsAnswer p 2 2 6 (3 ∷ 1 ∷ []) (join (truePolynomials p (tablesOf 2 2 (u ++ t)) (3 ∷ 1 ∷ []))) ≡ given (reached 4)
+  -- RoundsAlikeAtP: P7's round 1 is the same with challenges 8, 9
+  pub alike : messageAt 2 2 (leftOf (replicate 9 6)) 0
+      ≡ messageAt 2 2 (messagesAfter p 2 2 (u ++ t) (8 ∷ 9 ∷ []) (5 ∷ 5 ∷ 5 ∷ 5 ∷ 5 ∷ 5 ∷ 5 ∷ []) (replicate 9 6)) 0
+  -- AskedAgainAtP: scratch one place too short, asked again with what was left
+  pub again : proverAnswer p 2 2 (u ++ t) (3 ∷ 1 ∷ []) (leftOf (replicate 7 6)) (clearedOf (replicate 7 6)) ≡ refused 4
   -- NoneExactlyAtP: P12
   pub thirtyFive : checkerAnswer p 0 2 (5 ∷ 7 ∷ []) 35 [] [] ≡ given accepted
   pub thirtySix : checkerAnswer p 0 2 (5 ∷ 7 ∷ []) 36 [] [] ≡ given accepted → ⊥
@@ -112,6 +122,11 @@ pub record WorkedSteps : Type 0 where
   pub stepped : endOf p (fresh 2 1 11) p11 ≡ record { vars = 2; degree = 1; taken = 1; claim = 2147483639; mark = true }
   pub told : givens (outcomesOf p (fresh 2 1 11) p11) ≡ fitted ∷ rejects 2 ∷ []
   pub closed : (v : ℕ) (a : Verdict) → closing p (endOf p (fresh 2 1 11) p11) v .outcome ≡ given a → a ≡ rejected 2
+  -- StepsBelievedAtP: a claim for the ledger 3, 4, 1, 2 that is accepted in steps is 10, or a round was lucky
+  pub steppedLedger : (claim a b c d r s : ℕ) → first (checkerRules p 2 1 t claim (r ∷ s ∷ []) (a ∷ b ∷ c ∷ d ∷ [])) ≡ 0
+      → closing p (endOf p (fresh 2 1 claim) (inputsOf (r ∷ s ∷ []) (messagesOf 2 1 (a ∷ b ∷ c ∷ d ∷ [])))) (f p (tablesOf 2 1 t) (r ∷ s ∷ [])) .outcome
+      ≡ given accepted
+      → Unlucky 2 1 t (r ∷ s ∷ []) (a ∷ b ∷ c ∷ d ∷ []) → claim ≡ 10
   -- StepsAgreeAtP: P10; RoundsAgreeAtP: P9, last value 4
   pub tenth : closing p (endOf p (fresh 2 1 11) (inputsOf (0 ∷ 9 ∷ []) (messagesOf 2 1 lie))) (f p (tablesOf 2 1 t) (0 ∷ 9 ∷ [])) .outcome ≡ given accepted
   pub ninth : given (roundsBy (endOf p (fresh 2 2 6) (inputsOf (3 ∷ 1 ∷ []) (messagesOf 2 2 proof)))) ≡ given (reached 4)

@@ -25,6 +25,7 @@
 --   Messages      a lent list as messages, and messages as a list
 --   Proving       what the prover leaves (specs/Proving)
 --   Checker       the demands on the checker's own answer (specs/Checker)
+--   WithoutTables   the checker without tables beside the one with tables
 --   TrueClaim     a true claim is accepted by the checker's own answer
 --   Followed      the protocol's own course over inputs of steps
 --   Sequences     any sequence of steps answers as the protocol does (specs/Sequences)
@@ -59,6 +60,7 @@ pub mod Course
 pub mod Messages
 pub mod Proving
 pub mod Checker
+pub mod WithoutTables
 pub mod TrueClaim
 pub mod Followed
 pub mod Sequences

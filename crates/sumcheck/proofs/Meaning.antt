@@ -12,10 +12,10 @@ use Rattle.polynomial.specs.Elements.{Every, sum, product, countFrom}
 use Rattle.polynomial.proofs.Lists.{every}
 use Rattle.sumcheck.specs.Function.{trueSum}
 use Rattle.sumcheck.specs.Meaning.{total, multiplied, productAt, plainSum, Bounded}
-use Rattle.sumcheck.specs.Meaning.{ManyTables, OneTable, TotalItself, CallersRule, ValueIsSum, NoOther, AddsUp}
+use Rattle.sumcheck.specs.Meaning.{ManyTables, OneTable, TotalItself, CallersRule, RightShape, ValueIsSum, NoOther, AddsUp}
 use Rattle.sumcheck.proofs.Corners.{count-length}
 use Rattle.sumcheck.proofs.Halves.{column, sum-columns}
-use Rattle.sumcheck.proofs.TruePolynomial.{polynomial-value, polynomial-unique, polynomial-sum}
+use Rattle.sumcheck.proofs.TruePolynomial.{polynomial-length, polynomial-elements, polynomial-value, polynomial-unique, polynomial-sum}
 
 -- a product modulo n is the plain product's remainder
 product-plain : (n : ℕ) (xs : List ℕ) → product n xs ≡ multiplied xs % n
@@ -87,6 +87,10 @@ callers-rule n tables m bounds u l = many-tables n (omega arith) tables m ∙ mo
           total-bounded (multiplied bounds) (productAt tables) (λ (i : ℕ). product-bounded tables bounds i u) (countFrom 0 (2 ^ m)),
           ap (λ (c : ℕ). c * multiplied bounds) (count-length 0 (2 ^ m)),
         )
+
+pub right-shape : RightShape
+unfolding RightShape
+right-shape n h tables r rest = (polynomial-length n tables r rest, polynomial-elements n h tables r rest)
 
 pub value-is-sum : ValueIsSum
 unfolding ValueIsSum

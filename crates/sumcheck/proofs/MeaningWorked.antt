@@ -12,8 +12,8 @@ use Rattle.polynomial.specs.Polynomial.{value}
 use Rattle.sumcheck.specs.Corners.{corners}
 use Rattle.sumcheck.specs.Function.{trueSum, trueClaim}
 use Rattle.sumcheck.specs.TruePolynomial.{truePolynomial}
-use Rattle.sumcheck.specs.Meaning.{ManyTables, OneTable, TotalItself, CallersRule, ValueIsSum, NoOther, AddsUp, MeaningWorked}
-use Rattle.sumcheck.proofs.Meaning.{many-tables, one-table, total-itself, callers-rule, value-is-sum, no-other, adds-up}
+use Rattle.sumcheck.specs.Meaning.{ManyTables, OneTable, TotalItself, CallersRule, RightShape, ValueIsSum, NoOther, AddsUp, MeaningWorked}
+use Rattle.sumcheck.proofs.Meaning.{many-tables, one-table, total-itself, callers-rule, right-shape, value-is-sum, no-other, adds-up}
 
 abbrev t : List ℕ
 t = 3 ∷ 4 ∷ 1 ∷ 2 ∷ []
@@ -63,6 +63,10 @@ four : truePolynomial 11 (t ∷ []) (5 ∷ []) 0 ≡ 4 ∷ 1 ∷ []
 unfolding corners pow
 four = refl
 
+shape : length (truePolynomial 11 ((0 ∷ 1 ∷ []) ∷ (2 ∷ 3 ∷ []) ∷ (4 ∷ 5 ∷ []) ∷ []) [] 0) ≡ 4
+unfolding RightShape
+shape = right-shape 11 (omega arith) ((0 ∷ 1 ∷ []) ∷ (2 ∷ 3 ∷ []) ∷ (4 ∷ 5 ∷ []) ∷ []) [] 0 .0
+
 second : value 11 (truePolynomial 11 (t ∷ []) (5 ∷ []) 0) 2 ≡ 6
 unfolding ValueIsSum corners pow
 second = value-is-sum 11 (omega arith) (t ∷ []) (5 ∷ []) 0 2
@@ -90,6 +94,7 @@ meaning-worked =
       balance = balance;
       bounded = bounded;
       atMost = at-most;
+      shape = shape;
       second = second;
       only = only;
       first = adds [] 1 (7 ∷ 7 ∷ []) seven;

@@ -6,6 +6,7 @@
 --   AnswerComplete   a true claim is accepted with the true polynomials (demand 3)
 --   ProverAccepted   the messages that the prover leaves in a list of the exact length are accepted
 --   AnswerCertain    with no variables it accepts true claims only
+--   WithoutTables    the checker without tables gives the value of f exactly when the checker with tables accepts
 use mathlib.Core.Path.{_≡_}
 use mathlib.Core.Logic.{_↔_}
 use mathlib.Core.List.{List, []}
@@ -17,9 +18,9 @@ use Rattle.polynomial.specs.Polynomial.{value}
 use Rattle.refusals.specs.First.{refused, given, first}
 use Rattle.sumcheck.specs.Function.{f, trueSum}
 use Rattle.sumcheck.specs.TruePolynomial.{truePolynomials}
-use Rattle.sumcheck.specs.Protocol.{accepted, rejected}
+use Rattle.sumcheck.specs.Protocol.{reached, accepted, rejected}
 use Rattle.sumcheck.specs.Lent.{join, messagesLength, tablesOf, messagesOf}
-use Rattle.sumcheck.specs.Entries.{valueRules, proverRules, messagesAfter, checkerRules, checkerAnswer}
+use Rattle.sumcheck.specs.Entries.{valueRules, proverRules, messagesAfter, checkerRules, checkerAnswer, roundsAnswer}
 use Rattle.sumcheck.specs.Demands.{Lucky}
 
 -- c0 is the claim, and cj is the message of round j at its challenge (document 01, "What is offered"); rounds stand at places from 0
@@ -83,3 +84,9 @@ ProverAccepted = (n : ℕ) → 0 < n → (vars degree : ℕ) (tables challenges 
 unfoldable pub AnswerCertain : Type 0
 AnswerCertain = (n degree : ℕ) (tables : List ℕ) (claim : ℕ) (challenges messages : List ℕ)
     → checkerAnswer n 0 degree tables claim challenges messages ≡ given accepted → claim ≡ trueSum n (tablesOf 0 degree tables) 0
+
+-- so whoever is told the value of f by a source that they trust has demands 2 and 3 too
+unfoldable pub WithoutTables : Type 0
+WithoutTables = (n vars degree : ℕ) (tables : List ℕ) (claim : ℕ) (challenges messages : List ℕ) → WellLent n vars degree tables challenges
+    → (roundsAnswer n vars degree claim challenges messages ≡ given (reached (f n (tablesOf vars degree tables) challenges)))
+    ↔ (checkerAnswer n vars degree tables claim challenges messages ≡ given accepted)

@@ -3,6 +3,7 @@
 --   OneTable      so that of one table is the plain total of its numbers, as a remainder
 --   TotalItself   and where the plain total is below n, the total itself
 --   CallersRule   which is sure if 2^m times the product of a bound for each table is below n
+--   RightShape    the true polynomial is a list of k + 1 elements
 --   ValueIsSum    the true polynomial's value at every x is the sum of f over the corners of the rest, with its variable at x
 --   NoOther       with n prime and above k no other list of k + 1 elements has these values
 --   AddsUp        its values at 0 and 1 add up to the true claim of the round
@@ -55,6 +56,10 @@ unfoldable pub CallersRule : Type 0
 CallersRule = (n : ℕ) (tables : List (List ℕ)) (m : ℕ) (bounds : List ℕ) → Bounded tables bounds → 2 ^ m * multiplied bounds < n
     → trueSum n tables m ≡ plainSum tables m
 
+unfoldable pub RightShape : Type 0
+RightShape = (n : ℕ) → 0 < n → (tables : List (List ℕ)) (r : List ℕ) (rest : ℕ)
+    → (length (truePolynomial n tables r rest) ≡ suc (length tables)) × Elements n (truePolynomial n tables r rest)
+
 unfoldable pub ValueIsSum : Type 0
 ValueIsSum = (n : ℕ) → 0 < n → (tables : List (List ℕ)) (r : List ℕ) (rest x : ℕ)
     → value n (truePolynomial n tables r rest) x ≡ sum n (map (λ (b : List ℕ). f n tables (r ++ x ∷ b)) (corners rest))
@@ -82,6 +87,8 @@ pub record MeaningWorked : Type 0 where
   -- CallersRule: numbers up to 2 and up to 4 in four places add up to 32 at most; one place, up to 5 and up to 7
   pub bounded : trueSum 33 ((0 ∷ 1 ∷ 2 ∷ 0 ∷ []) ∷ (3 ∷ 4 ∷ 1 ∷ 2 ∷ []) ∷ []) 2 ≡ 6
   pub atMost : trueSum 36 ((5 ∷ []) ∷ (7 ∷ []) ∷ []) 0 ≡ 35
+  -- RightShape: round 1 of three tables has four coefficients
+  pub shape : length (truePolynomial 11 ((0 ∷ 1 ∷ []) ∷ (2 ∷ 3 ∷ []) ∷ (4 ∷ 5 ∷ []) ∷ []) [] 0) ≡ 4
   -- ValueIsSum: round 2 of P4, after challenge 5, is 4 + X; at 2 it is the extension of P2, 6
   pub second : value 11 (truePolynomial 11 ((3 ∷ 4 ∷ 1 ∷ 2 ∷ []) ∷ []) (5 ∷ []) 0) 2 ≡ 6
   -- NoOther: no other two elements modulo 11 make a list with the values of 4 + X
