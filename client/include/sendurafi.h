@@ -192,8 +192,9 @@ sendurafi_stepped sendurafi_open(uint32_t vars, uint32_t degree, uint32_t claim)
 
 /* One round: a message of SENDURAFI_ROUND_LEN(degree) coefficients and its
  * challenge. Go on with the state that comes back. Rejected, only the mark is
- * set; refused, the state is unchanged. Refusals 1, 2, 5 for the running
- * claim, 7, then 3, 5 for what is given. */
+ * set; refused, the state is unchanged, but for a mark that was not 0, which
+ * comes back as 1. Refusals 1, 2, 5 for the running claim, 7, then 3, 5 for
+ * what is given. */
 sendurafi_stepped sendurafi_step(sendurafi_state state, const uint32_t *message,
                                  size_t message_len, uint32_t challenge);
 

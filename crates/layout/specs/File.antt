@@ -34,10 +34,10 @@ fileOf layout vars degree claim coefficients =
     ++ (linesOf vars (roundLine layout degree) coefficients
     ++ lineOf (endLine layout vars) (vars ∷ []))))))
 
--- every number of a list is below p and has at most so many digits
+-- every number of a list is below the modulus and has at most so many digits
 abbrev pub Writable : ℕ → ℕ → List ℕ → Type 0
-Writable p most [] = Unit {0}
-Writable p most (n ∷ more) = (n < p) × (length (decimal n) ≤ most) × Writable p most more
+Writable modulus most [] = Unit {0}
+Writable modulus most (n ∷ more) = (n < modulus) × (length (decimal n) ≤ most) × Writable modulus most more
 
 -- parts that a file may have: within the limits, elements of the field, of the right number, and no number or file too long
 pub record FileParts (layout : Layout) (vars degree claim : ℕ) (coefficients : List ℕ) : Type 0 where

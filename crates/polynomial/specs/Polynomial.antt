@@ -16,24 +16,24 @@ value n cs x = valueFrom n 0 cs x
 -- the sum of two polynomials, power by power
 abbrev pub plus : ℕ → List ℕ → List ℕ → List ℕ
 plus n [] q = q
-plus n (a ∷ p) [] = a ∷ p
-plus n (a ∷ p) (b ∷ q) = add n a b ∷ plus n p q
+plus n (a ∷ s) [] = a ∷ s
+plus n (a ∷ s) (b ∷ q) = add n a b ∷ plus n s q
 
 -- a polynomial times a number
 abbrev pub scale : ℕ → ℕ → List ℕ → List ℕ
 scale n a q = map (mul n a) q
 
--- the product of two polynomials: (a + X·p)·q = a·q + X·(p·q)
+-- the product of two polynomials: (a + X·s)·q = a·q + X·(s·q)
 abbrev pub times : ℕ → List ℕ → List ℕ → List ℕ
 times n [] q = []
-times n (a ∷ p) q = plus n (scale n a q) (0 ∷ times n p q)
+times n (a ∷ s) q = plus n (scale n a q) (0 ∷ times n s q)
 
 -- the sum of polynomials
 abbrev pub plusAll : ℕ → List (List ℕ) → List ℕ
 plusAll n [] = []
-plusAll n (p ∷ ps) = plus n p (plusAll n ps)
+plusAll n (s ∷ ss) = plus n s (plusAll n ss)
 
 -- the product of polynomials
 abbrev pub timesAll : ℕ → List (List ℕ) → List ℕ
 timesAll n [] = 1 % n ∷ []
-timesAll n (p ∷ ps) = times n p (timesAll n ps)
+timesAll n (s ∷ ss) = times n s (timesAll n ss)
