@@ -242,7 +242,9 @@ static void test_round_part(void) {
     EXPECT(part_is(2, 2, 6, 2, 3, 3, 0));
     EXPECT(part_is(16, 3, 64, 16, 60, 4, 0));
     EXPECT(part_is(17, 4, 5, 0, 0, 0, 1));
+    EXPECT(part_is(17, 4, 6, 1, 0, 0, 1));
     EXPECT(part_is(2, 4, 5, 0, 0, 0, 2));
+    EXPECT(part_is(2, 4, 6, 1, 0, 0, 2));
     EXPECT(part_is(2, 2, 5, 0, 0, 0, 3));
     EXPECT(part_is(2, 2, 6, 0, 0, 0, 8));
     EXPECT(part_is(2, 2, 6, 3, 0, 0, 8));

@@ -1,16 +1,16 @@
--- `prover_cases::show::list` meets its contract: it is safe, and ends with the list. Assumes nothing.
+-- `worked_cases::show::list` meets its contract: the place stays within the list. Assumes nothing.
 use Prim.Native.Nat.{_-_, _≤_}
 use lib.ListN.{length}
 use borrow.Author.Needs.{needs}
 use native.Mathlib.Omega.{arith}
-use Rattle.prover_cases.proofs.show.list.Statement.{statement}
-use Rattle.prover_cases.proofs.show.list.Tie as tie
+use Rattle.worked_cases.proofs.show.list.Statement.{statement}
+use Rattle.worked_cases.proofs.show.list.Tie as tie
 
 abbrev Inv-loop : tie.InvT-loop
-Inv-loop s i₀ t3 i = i ≤ length s
+Inv-loop numbers i₀ i = i ≤ length numbers
 
 abbrev μ-loop : tie.MeasureT-loop
-μ-loop s i₀ t3 i = length s - i
+μ-loop numbers i₀ i = length numbers - i
 
 loop-holds : tie.Need-loop-holds Inv-loop μ-loop
 loop-holds c = omega arith
@@ -33,12 +33,6 @@ loop-less c = omega arith
 loop-again : tie.Need-loop-again Inv-loop μ-loop
 loop-again c = omega arith
 
-slice-aggregate-write-all : tie.Need-slice-aggregate-write-all Inv-loop μ-loop
-slice-aggregate-write-all c = omega arith
-
-write-all-requires : tie.Need-write-all-requires Inv-loop μ-loop
-write-all-requires c κs = search needs
-
 returns : tie.Need-returns Inv-loop μ-loop
 returns c = omega arith
 
@@ -55,6 +49,4 @@ list-spec =
     add-i
     loop-less
     loop-again
-    slice-aggregate-write-all
-    write-all-requires
     returns)
