@@ -1,7 +1,6 @@
 -- What follows from the demands at p (specs/Follows). Each proof cites a demand as specs/Demands states it, and not the law behind it, so that a weaker
 -- demand does not prove it. Assumes nothing.
 use mathlib.Core.Path.{_≡_, refl, sym, ap, ap₂, _∙_}
-use mathlib.Core.Logic.{_↔_}
 use mathlib.Core.Bool.{Bool, true, false}
 use mathlib.Core.List.{List, [], _∷_, append-nil}
 use Prim.Native.Nat.{ℕ, suc, _+_, _-_, _*_, _^_, _%_, _≤_, _<_}
@@ -13,12 +12,11 @@ use lib.Seq.{take-all}
 use borrow.Author.Tests.{eqb-true, eqb-false}
 use Rattle.refusals.specs.First.{Answer, refused, given, first}
 use Rattle.refusals.proofs.Order.{untested, neither-left, neither-right, decided-given}
-use Rattle.polynomial.specs.Elements.{Every, Elements, Distinct}
 use Rattle.sumcheck.specs.Function.{f, trueSum}
 use Rattle.sumcheck.specs.TruePolynomial.{truePolynomial, truePolynomials}
 use Rattle.sumcheck.specs.Meaning.{total, OneTable}
 use Rattle.sumcheck.specs.Protocol.{reached, Verdict, accepted, rejected}
-use Rattle.sumcheck.specs.Lent.{join, tablesLength, messagesLength, tablesOf, messagesOf, notLong, parts}
+use Rattle.sumcheck.specs.Lent.{join, tablesLength, tablesOf, notLong, parts}
 use Rattle.sumcheck.specs.Entries.{sumRules, valueRules, proverAnswer, messagesAfter, scratchAfter, checkerRules, checkerAnswer, roundsAnswer}
 use Rattle.sumcheck.specs.Steps.{State, step}
 use Rattle.sumcheck.proofs.Meaning.{one-table}

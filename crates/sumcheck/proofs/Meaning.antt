@@ -5,12 +5,10 @@ use mathlib.Core.List.{List, [], _∷_, map}
 use Prim.Native.Nat.{ℕ, zero, suc, _+_, _*_, _^_, _%_, _≤_, _<_}
 use native.Mathlib.Nat.{add-zero, suc-add, add-suc, add-mod, zero-mod, mod-eq-of-lt, mul-le-mul}
 use native.Mathlib.Omega.{arith}
-use lib.ListN.{length, getD, length-map}
+use lib.ListN.{length, getD}
 use Rattle.arithmetic.specs.Modulo.{add, mul}
-use Rattle.arithmetic.proofs.Modulo.{mul-one-mod, mul-mod-left, mul-mod-right}
+use Rattle.arithmetic.proofs.Modulo.{mul-mod-right}
 use Rattle.polynomial.specs.Elements.{Every, sum, product, countFrom}
-use Rattle.polynomial.proofs.Lists.{every}
-use Rattle.sumcheck.specs.Function.{trueSum}
 use Rattle.sumcheck.specs.Meaning.{total, multiplied, productAt, plainSum, Bounded}
 use Rattle.sumcheck.specs.Meaning.{ManyTables, OneTable, TotalItself, CallersRule, RightShape, ValueIsSum, NoOther, AddsUp}
 use Rattle.sumcheck.proofs.Corners.{count-length}

@@ -2,7 +2,7 @@
 -- of the other's refusals is about tables. Both walk the same rounds, and the final check is a comparison with the value of f. Assumes nothing.
 use mathlib.Core.Path.{_≡_, refl, sym, ap, _∙_}
 use mathlib.Core.Bool.{false}
-use mathlib.Core.List.{List, [], _∷_, _++_}
+use mathlib.Core.List.{List, _∷_, _++_}
 use Prim.Native.Nat.{ℕ}
 use lib.ListN.{length}
 use borrow.Author.Tests.{eq-eqb}
@@ -11,7 +11,7 @@ use Rattle.refusals.proofs.First.{choose-true, either-none, outside-append}
 use Rattle.refusals.proofs.Order.{given-by, untested, untested-none, neither-left, outside-none, decided-given}
 use Rattle.sumcheck.specs.Function.{f}
 use Rattle.sumcheck.specs.Protocol.{Rounds, reached, rounds, accepted, rejected, final, verdict}
-use Rattle.sumcheck.specs.Lent.{tablesLength, messagesLength, tablesOf, messagesOf, notLong}
+use Rattle.sumcheck.specs.Lent.{tablesLength, tablesOf, messagesOf, notLong}
 use Rattle.sumcheck.specs.Entries.{valueRules, checkerRules, checkerAnswer, roundsRules, roundsAnswer}
 use Rattle.sumcheck.specs.Checker.{WellLent, WithoutTables}
 use Rattle.sumcheck.proofs.Entries.{checker-rounds}
