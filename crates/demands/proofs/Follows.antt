@@ -2,13 +2,13 @@
 -- demand does not prove it. Assumes nothing.
 use mathlib.Core.Path.{_≡_, refl, sym, ap, ap₂, _∙_}
 use mathlib.Core.Bool.{Bool, true, false}
-use mathlib.Core.List.{List, [], _∷_, append-nil}
+use mathlib.Core.List.{List, [], _∷_, _++_, append-nil}
 use Prim.Native.Nat.{ℕ, suc, _+_, _-_, _*_, _^_, _%_, _≤_, _<_}
 use native.Mathlib.Nat.{mod-eq-of-lt}
 use native.Mathlib.Omega.{arith}
 use lib.Dec.{eqb}
-use lib.ListN.{length, take}
-use lib.Seq.{take-all}
+use lib.ListN.{length, take, drop}
+use lib.Seq.{take-all, drop-length}
 use borrow.Author.Tests.{eqb-true, eqb-false}
 use Rattle.refusals.specs.First.{Answer, refused, given, first}
 use Rattle.refusals.proofs.Order.{untested, neither-left, neither-right, decided-given}
@@ -28,12 +28,13 @@ use Rattle.layout.specs.File.{fileOf, FileParts}
 use Rattle.narrow_field.specs.Narrow.{p}
 use Rattle.narrow_file.specs.Narrow.{narrow, readAnswer, after}
 use Rattle.demands.specs.Demands.{messageAt, RefusesFirstAtP, ProverKeepsAtP, ReaderKeepsAtP, ProverWritesAtP, AcceptsExactlyAtP, RejectsFirstAtP}
-use Rattle.demands.specs.Demands.{WithoutTablesAtP, ReadsExactlyAtP, CompleteAtP, ProverAcceptedAtP, SoundAtP, CertainAtP}
+use Rattle.demands.specs.Demands.{WithoutTablesAtP, ReadsExactlyAtP, ReaderWritesAtP, CompleteAtP, ProverAcceptedAtP, SoundAtP, CertainAtP}
 use Rattle.demands.specs.Stepwise.{StepKeepsAtP, StepsAgreeAtP}
 use Rattle.demands.specs.Follows.{Reason, EveryAnswerAtP, SettledAtP, Unlucky, BelievedAtP, NeverMoreAtP, LedgerAtP, HonestExactlyAtP, EndToEndAtP}
 use Rattle.demands.specs.Follows.{RoundsAlikeAtP, AskedAgainAtP, ToldValueAtP, StepsBelievedAtP, NoneExactlyAtP, ReadBackAtP, OneContentAtP}
+use Rattle.demands.specs.Follows.{ReadIntoAtP}
 use Rattle.demands.proofs.Demands.{refuses-first-at-p, prover-keeps-at-p, reader-keeps-at-p, prover-writes-at-p, accepts-exactly-at-p, rejects-first-at-p}
-use Rattle.demands.proofs.Demands.{without-tables-at-p, reads-exactly-at-p, complete-at-p, prover-accepted-at-p, sound-at-p, certain-at-p}
+use Rattle.demands.proofs.Demands.{without-tables-at-p, reads-exactly-at-p, reader-writes-at-p, complete-at-p, prover-accepted-at-p, sound-at-p, certain-at-p}
 use Rattle.demands.proofs.Stepwise.{step-keeps-at-p, steps-agree-at-p}
 
 pub every-answer-at-p : EveryAnswerAtP
@@ -146,6 +147,12 @@ one-content-at-p v w d e c b ms ns x y same =
     let places = v * (d + 1) + w * (e + 1) in
     sym (read-back-at-p v d c ms .1 x places (omega arith))
     ∙ (ap (λ (bytes : List ℕ). readAnswer bytes places) same ∙ read-back-at-p w e b ns .1 y places (omega arith))
+
+pub read-into-at-p : ReadIntoAtP
+unfolding ReadIntoAtP ReaderWritesAtP
+read-into-at-p vars degree claim messages bytes list h e =
+    reader-writes-at-p vars degree claim messages bytes list h
+    ∙ (ap (λ (i : ℕ). messages ++ drop i list) (sym e) ∙ (ap (λ (l : List ℕ). messages ++ l) (drop-length list) ∙ append-nil messages))
 
 pub rounds-alike-at-p : RoundsAlikeAtP
 unfolding RoundsAlikeAtP ProverWritesAtP

@@ -29,12 +29,12 @@ use Rattle.narrow_file.specs.Narrow.{narrow, readAnswer, after}
 use Rattle.narrow_file.specs.Example.{wholeFile}
 use Rattle.demands.specs.Demands.{messageAt, polynomialAt, LuckyAtP, ProverWritesAtP, ProverKeepsAtP, ReaderKeepsAtP, ReadsExactlyAtP, ReaderWritesAtP}
 use Rattle.demands.specs.Follows.{Reason, SettledAtP, Unlucky, NeverMoreAtP, LedgerAtP, HonestExactlyAtP, EndToEndAtP}
-use Rattle.demands.specs.Follows.{RoundsAlikeAtP, StepsBelievedAtP, NoneExactlyAtP, ReadBackAtP, OneContentAtP}
+use Rattle.demands.specs.Follows.{RoundsAlikeAtP, StepsBelievedAtP, NoneExactlyAtP, ReadBackAtP, OneContentAtP, ReadIntoAtP}
 use Rattle.demands.specs.Stepwise.{StepKeepsAtP, DoubtedAlikeAtP, StepsFollowAtP, ClosingFollowsAtP, StepsAgreeAtP, RoundsAgreeAtP}
 use Rattle.demands.specs.Worked.{t, u, ones, proof, lie, CountIsMet, leftOf, clearedOf, p11, forgedState, Worked, WorkedSteps}
 use Rattle.demands.proofs.Demands.{prover-writes-at-p, prover-keeps-at-p, reader-keeps-at-p, reads-exactly-at-p, reader-writes-at-p}
 use Rattle.demands.proofs.Follows.{settled-at-p, ledger-at-p, never-more-at-p, honest-exactly-at-p, end-to-end-at-p, none-exactly-at-p, read-back-at-p}
-use Rattle.demands.proofs.Follows.{one-content-at-p, rounds-alike-at-p, asked-again-at-p, told-value-at-p, steps-believed-at-p}
+use Rattle.demands.proofs.Follows.{one-content-at-p, read-into-at-p, rounds-alike-at-p, asked-again-at-p, told-value-at-p, steps-believed-at-p}
 use Rattle.demands.proofs.Stepwise.{step-keeps-at-p, doubted-alike-at-p, steps-follow-at-p, closing-follows-at-p, steps-agree-at-p, rounds-agree-at-p}
 
 -- lists whose second members differ
@@ -184,6 +184,10 @@ read-into : after (readAnswer wholeFile 7) (replicate 7 5) ≡ proof ++ 5 ∷ []
 unfolding ReaderWritesAtP
 read-into = reader-writes-at-p 2 2 6 proof wholeFile (replicate 7 5) (whole-read .1)
 
+read-exactly : after (readAnswer wholeFile 6) (replicate 6 5) ≡ proof
+unfolding ReadIntoAtP
+read-exactly = read-into-at-p 2 2 6 proof wholeFile (replicate 6 5) (whole-read .0) refl
+
 told : roundsAnswer p 2 2 6 (3 ∷ 1 ∷ []) (join (truePolynomials p (tablesOf 2 2 (u ++ t)) (3 ∷ 1 ∷ []))) ≡ given (reached 4)
 told =
     ap (λ (c : ℕ). roundsAnswer p 2 2 c (3 ∷ 1 ∷ []) (join (truePolynomials p (tablesOf 2 2 (u ++ t)) (3 ∷ 1 ∷ [])))) (sym six-sum)
@@ -218,6 +222,7 @@ worked =
       keptMessages = kept .0;
       keptScratch = kept .1;
       readInto = read-into;
+      readExactly = read-exactly;
       keptList = kept-list;
       told = told;
       alike = alike;

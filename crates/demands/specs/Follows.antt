@@ -14,6 +14,7 @@
 --   NoneExactlyAtP    with no variables the true claim is accepted, and no other
 --   ReadBackAtP       what is read is the file of its parts, and a file of parts that may be filed is read into any list with room
 --   OneContentAtP     no two contents share a file
+--   ReadIntoAtP       a file that is read into a list of the exact length leaves its coefficients there, and nothing else
 use mathlib.Core.Path.{_≡_}
 use mathlib.Core.Logic.{_↔_}
 use mathlib.Core.List.{List, []}
@@ -140,3 +141,7 @@ ReadBackAtP = (vars degree claim : ℕ) (messages : List ℕ)
 unfoldable pub OneContentAtP : Type 0
 OneContentAtP = (v w d e c b : ℕ) (ms ns : List ℕ) → FileParts narrow v d c ms → FileParts narrow w e b ns
     → fileOf narrow v d c ms ≡ fileOf narrow w e b ns → file v d c ms ≡ file w e b ns
+
+unfoldable pub ReadIntoAtP : Type 0
+ReadIntoAtP = (vars degree claim : ℕ) (messages bytes list : List ℕ) → readAnswer bytes (length list) ≡ file vars degree claim messages
+    → length list ≡ vars * (degree + 1) → after (readAnswer bytes (length list)) list ≡ messages

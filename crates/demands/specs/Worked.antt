@@ -100,6 +100,8 @@ pub record Worked : Type 0 where
   pub keptScratch : clearedOf (replicate 7 6) ≡ replicate 7 6
   -- ReaderWritesAtP: the document's file into a list with one place more
   pub readInto : after (readAnswer wholeFile 7) (replicate 7 5) ≡ proof ++ 5 ∷ []
+  -- ReadIntoAtP: and into one of the exact length
+  pub readExactly : after (readAnswer wholeFile 6) (replicate 6 5) ≡ proof
   -- ReaderKeepsAtP: the empty file, and any list
   pub keptList : (list : List ℕ) → after (readAnswer [] (length list)) list ≡ list
   -- ToldValueAtP: P9 without tables, told the value 4
