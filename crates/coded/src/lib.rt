@@ -1,4 +1,6 @@
 // Answers in numbers, as they cross to other languages: the structs, and `code`, which writes each answer of the library down as one of them.
+#![tactic(auto)]
+
 pub mod code;
 
 // An answer in numbers. kind 0: given, done, accepted or reached, with the value where there is one; 1: rejected, number is the round; 2: refused,

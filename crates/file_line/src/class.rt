@@ -5,7 +5,7 @@ ghost use Rattle.file_line.specs.OneLine.{meant};
 ghost use Rattle.file_line.specs.Steps.{is_end};
 
 // The classes, in the document's order.
-#[derive(Drop)]
+#[derive(Clone, Copy)]
 pub enum Class {
     Digit,
     Comma,

@@ -22,7 +22,7 @@ pub enum Word {
 
 // What a line must be, beside its word: its number in the file, how many commas it has, the most digits of a number, and the least and
 // the greatest number allowed.
-#[derive(Drop)]
+#[derive(Clone, Copy)]
 pub struct Wanted {
     pub line: u32,
     pub commas: u32,

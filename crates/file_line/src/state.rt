@@ -10,7 +10,7 @@ use super::{letters, numbers};
 
 // A number that is being read: its digits so far and their value, how many commas are still to come, and whether it may be allowed:
 // each number before it is, and it fits in 64 bits.
-#[derive(Drop)]
+#[derive(Clone, Copy)]
 pub struct Number {
     pub digits: u32,
     pub value: u64,
@@ -19,7 +19,7 @@ pub struct Number {
 }
 
 // So many letters of the line's word; its numbers; or the line is not of its form.
-#[derive(Drop)]
+#[derive(Clone, Copy)]
 pub enum State {
     Letters(usize),
     Numbers(Number),

@@ -1,4 +1,6 @@
 // The checker over the narrow field (document 01): `whole` has it in one call, `without_tables` without them.
+#![tactic(auto)]
+
 pub mod whole;
 pub mod without_tables;
 

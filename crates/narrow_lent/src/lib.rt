@@ -1,5 +1,7 @@
 // What is lent to an entry over the narrow field (document 01): `lengths` says how long its lists must be, `judge` turns it down, `prover` judges all
 // that the prover is lent.
+#![tactic(auto)]
+
 pub mod judge;
 pub mod lengths;
 pub mod prover;

@@ -10,7 +10,7 @@ use narrow_field::field::is_outside;
 use narrow_lent::judge;
 
 // What the state holds: the shape, rounds taken, the running claim and a rejected mark.
-#[derive(Drop)]
+#[derive(Clone, Copy)]
 pub struct State {
     pub vars: u32,
     pub degree: u32,

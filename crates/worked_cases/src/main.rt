@@ -1,5 +1,7 @@
 // The specification's own worked cases (document 01, "Sums done by hand"), run and printed: P7 to P12, P11 in steps too, and P9 from the file. What it
 // must write stands in stdout, by hand. All other cases run through the archive: a proved program pays for each call that it makes.
+#![tactic(auto)]
+
 mod show;
 
 use narrow_checker::Rounds;
