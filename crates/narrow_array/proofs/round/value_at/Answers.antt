@@ -9,5 +9,5 @@ pub loop-i-preserved : goal.loop-i-preserved
 loop-i-preserved c =
     let at = c.loop-i in (
       omega arith,
-      c.times_plus-v.ensures ∙ value_down p c.args.c c.args.x at.i at.v c.loop-i-test.true at.invariant.0 at.invariant.1,
+      c.times_plus-v.ensures ∙ value_down p c.args.c c.args.x at.i at.v (omega arith) at.invariant.0 at.invariant.1,
     )
