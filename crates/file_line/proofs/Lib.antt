@@ -6,6 +6,7 @@
 --   Runs      the machine from a place of the bytes on
 --   Asked     the layout's tests, as a least and a greatest number
 --   Told      what a line's answer tells of the bytes, for a reader that goes on from it
+--   Classes   the class of a byte, by the tests that the code makes
 --   Pinned    no two answers say the same
 pub mod Paths
 pub mod Machine
@@ -14,4 +15,5 @@ pub mod Words
 pub mod Runs
 pub mod Asked
 pub mod Told
+pub mod Classes
 pub mod Pinned

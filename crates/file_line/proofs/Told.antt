@@ -60,7 +60,8 @@ module _ (bytes : List ℕ) (at n : ℕ) {wanted line : layout.Line} (same : wan
           (ns, f ∙ ap (found ns) (sym (rest_there bytes at n line ns rest f) ∙ ap (λ (k : ℕ). drop k bytes) p), cc)
 
   -- the answer that goes on from the line
-  pub then_refused : {number m : ℕ} (next : List ℕ → List ℕ → Reading) → r ≡ Refused number m → refused_at number m ≡ reading_then (line_at n line (drop at bytes)) next
+  pub then_refused : {number m : ℕ} (next : List ℕ → List ℕ → Reading) → r ≡ Refused number m
+      → refused_at number m ≡ reading_then (line_at n line (drop at bytes)) next
   then_refused next e = rw (told-refused e)
 
   pub then_found : {last place : ℕ} {reading : Reading} (next : ℕ → List ℕ → Reading) → r ≡ Found last place → reading ≡ next last (drop place bytes)

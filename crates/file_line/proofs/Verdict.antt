@@ -23,7 +23,8 @@ use Rattle.file_line.specs.declared.state.State.{State}
 use Rattle.file_line.specs.declared.state.State.TheVariants.{Numbers, Bad}
 use Rattle.file_line.specs.OneLine.{Brief, stopped, went}
 use Rattle.file_line.specs.Steps.{greatest, more_of, still_of, with_digit, with_comma, in_numbers, closed_number, closed_of}
-use Rattle.file_line.proofs.Paths.{digit_full, digit_first, digit-after-zero, digit_later, comma_empty, comma_last, comma-next, closed_empty, closed_early, closed-refused, closed-found}
+use Rattle.file_line.proofs.Paths.{digit_full, digit_first, digit-after-zero, digit_later, comma_empty, comma_last, comma-next}
+use Rattle.file_line.proofs.Paths.{closed_empty, closed_early, closed-refused, closed-found}
 use Rattle.file_line.proofs.Machine.{steps_of, closed_bad}
 
 -- digits put before the first part
@@ -146,7 +147,8 @@ module _ (w : Wanted) (word : List ℕ) (limit : w.high ≤ greatest) where
   unfolding Law
   numbers-end k a ds next pre l = empty (eqb (length ds) 0) refl
     where
-      last : (length ds ≡ 0 → ⊥) → k ≡ 0 → verdict w k a next ((ds ++ []) ∷ []) ≡ choose (still_of w (held ds k a)) (went (number_of ds) next) (stopped 12 w.line)
+      last : (length ds ≡ 0 → ⊥) → k ≡ 0
+          → verdict w k a next ((ds ++ []) ∷ []) ≡ choose (still_of w (held ds k a)) (went (number_of ds) next) (stopped 12 w.line)
       last z y =
           ap (λ (q : List ℕ). verdict w k a next (q ∷ [])) (append-nil ds)
           ∙ (verdict_last w k a next ds (prefix_number w pre z l) y

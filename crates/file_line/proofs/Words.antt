@@ -28,17 +28,21 @@ use Rattle.file_line.proofs.Verdict.{none, first_none, verdict, Law, numbers_law
 
 module _ (w : Wanted) (word : List ℕ) (limit : w.high ≤ greatest) (size : ℕ) where
   -- the verdict is what the layout says of the text after `=`
-  verdict-form : (text rest : List ℕ) → verdict w w.commas true (size - length rest) (pieces text) ≡ brief size (judged_line w.line (line_with word w) rest (numbers_of (line_with word w) text))
+  verdict-form : (text rest : List ℕ)
+      → verdict w w.commas true (size - length rest) (pieces text)
+      ≡ brief size (judged_line w.line (line_with word w) rest (numbers_of (line_with word w) text))
   unfolding verdict numbers_of
   verdict-form text rest = go (eqb (length (pieces text)) (w.commas + 1) && all (is_number w.digits) (pieces text)) refl
     where
       allowed : (t : Bool) → all (within w.low w.high) (map number_of (pieces text)) ≡ t
-          → choose t (went (only (map number_of (pieces text))) (size - length rest)) (stopped 12 w.line) ≡ brief size (choose t (found (map number_of (pieces text)) rest) (fault 12 w.line))
+          → choose t (went (only (map number_of (pieces text))) (size - length rest)) (stopped 12 w.line)
+          ≡ brief size (choose t (found (map number_of (pieces text)) rest) (fault 12 w.line))
       allowed true e = refl
       allowed false e = refl
 
       go : (t : Bool) → (eqb (length (pieces text)) (w.commas + 1) && all (is_number w.digits) (pieces text)) ≡ t
-          → verdict w w.commas true (size - length rest) (pieces text) ≡ brief size (judged_line w.line (line_with word w) rest (numbers_of (line_with word w) text))
+          → verdict w w.commas true (size - length rest) (pieces text)
+          ≡ brief size (judged_line w.line (line_with word w) rest (numbers_of (line_with word w) text))
       go true e = rw e (allowed (all (within w.low w.high) (map number_of (pieces text))) refl)
       go false e = rw e
 
@@ -64,7 +68,8 @@ module _ (w : Wanted) (word : List ℕ) (limit : w.high ≤ greatest) (size : �
       go bytes.equals f m =
           let r = rw f at m in
           ap (λ (k : bytes.Class). closed_of w (steps_of w word (in_word w word (length pre) c k) text) (size - length rest)) f
-          ∙ (ap (λ (s : State). closed_of w (steps_of w word s text) (size - length rest)) (sym (open_right w word (length pre) (sym (ap length (e ∙ append-nil pre)))))
+          ∙ (ap (λ (s : State). closed_of w (steps_of w word s text) (size - length rest))
+          (sym (open_right w word (length pre) (sym (ap length (e ∙ append-nil pre)))))
           ∙ (unfold Law in numbers_law w word limit text w.commas true [] (size - length rest) (none refl) (omega arith)
           ∙ (ap (verdict w w.commas true (size - length rest)) (first_none text) ∙ (verdict-form text rest ∙ rw (eq-eqb c 61 r)))))
       go bytes.letter f m =
@@ -101,7 +106,8 @@ module _ (w : Wanted) (word : List ℕ) (limit : w.high ≤ greatest) (size : �
       same true z =
           let y = eqb-true c k z in
           let r = between_holds 97 122 k l in
-          ap (λ (x : bytes.Class). closed_of w (steps_of w word (in_word w word (length pre) c x) text) (size - length rest)) (class_letter c (omega arith) (omega arith))
+          ap (λ (x : bytes.Class). closed_of w (steps_of w word (in_word w word (length pre) c x) text) (size - length rest))
+          (class_letter c (omega arith) (omega arith))
           ∙ (ap (λ (s : State). closed_of w (steps_of w word s text) (size - length rest)) (sym (letter-right word (length pre) c place (y ∙ sym at)))
           ∙ (ap (λ (n : ℕ). closed_of w (steps_of w word (Letters n) text) (size - length rest)) (sym (length-append pre (k ∷ [])))
           ∙ (ih ∙ rw z)))

@@ -16,6 +16,7 @@ pub enum Class {
 }
 
 // Sorts every byte into its class.
+#[tactic(auto, using(crate::proofs::Classes::class_by_tests))]
 pub fn class_of(b: u8) -> Class
     ensures { meant result ≡ class_of b }
 {

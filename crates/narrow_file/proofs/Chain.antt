@@ -9,7 +9,8 @@ use lib.ListN.{length, drop, drop_of_length-le}
 use Rattle.refusals.specs.Limits.{max_vars, max_degree}
 use Rattle.layout.specs.Line.{Outcome, fault, found, line_at, before}
 use Rattle.layout.specs.Line as layout
-use Rattle.layout.specs.Reading.{file, refused_at, lines_at, from_after, from_end, edition_line, field_line, vars_line, degree_line, claim_line, round_line, end_line}
+use Rattle.layout.specs.Reading.{file, refused_at, lines_at, from_after, from_end}
+use Rattle.layout.specs.Reading.{edition_line, field_line, vars_line, degree_line, claim_line, round_line, end_line}
 use Rattle.file_line.specs.declared.line.Word.TheVariants.{Sumproof, Field, Vars, Degree, Claim, Round, End}
 use Rattle.file_line.specs.declared.line.Wanted.{Wanted}
 use Rattle.file_line.specs.declared.line.Line.{Line}
@@ -89,7 +90,8 @@ module _ (bytes : List ℕ) (at vars degree j : ℕ) (h : j < vars) (r : Line)
   round-refused e = rw left (lines_refused bytes at (j + 6) (round_line_lem (j + 6) degree) r says (vars - (j + 1)) e)
 
   pub round-found : {last place : ℕ} → r ≡ Found last place
-      → bare (lines_at (j + 1 + 6) (vars - (j + 1)) (round_line narrow degree) (drop place bytes)) ≡ bare (lines_at (j + 6) (vars - j) (round_line narrow degree) (drop at bytes))
+      → bare (lines_at (j + 1 + 6) (vars - (j + 1)) (round_line narrow degree) (drop place bytes))
+      ≡ bare (lines_at (j + 6) (vars - j) (round_line narrow degree) (drop at bytes))
   round-found {last} {place} e =
       let f : j + 1 + 6 ≡ j + 6 + 1 = omega arith in
       ap (λ (n : ℕ). bare (lines_at n (vars - (j + 1)) (round_line narrow degree) (drop place bytes))) f

@@ -40,7 +40,8 @@ abbrev overs : ℕ → List (List ℕ) → List ℕ
 overs v [] = []
 overs v (part ∷ more) = over v part ∷ map (over 0) more
 
-overs-widen : (v b : ℕ) (ps : List (List ℕ)) → ((p : List ℕ) × (more : List (List ℕ)) × (ps ≡ p ∷ more)) → overs v (widen b ps) ≡ overs ((v * 10 + (b - 48)) % 2 ^ 32) ps
+overs-widen : (v b : ℕ) (ps : List (List ℕ)) → ((p : List ℕ) × (more : List (List ℕ)) × (ps ≡ p ∷ more))
+    → overs v (widen b ps) ≡ overs ((v * 10 + (b - 48)) % 2 ^ 32) ps
 overs-widen v b ps s = rw s.2
 
 overs-zero : (ps : List (List ℕ)) → ((p : List ℕ) × (more : List (List ℕ)) × (ps ≡ p ∷ more)) → overs 0 ps ≡ map (over 0) ps
@@ -56,7 +57,8 @@ first_digit b ps s h =
     let q = both (is_digit b) (all is_digit p) r.0 in
     (q.0, rw (s.2, q.1, r.1))
 
-collect-parts : (text : List ℕ) (v : ℕ) (rest : List ℕ) → all (all is_digit) (pieces text) ≡ true → collect v (text ++ 10 ∷ rest) ≡ overs v (pieces text) ++ collect 0 rest
+collect-parts : (text : List ℕ) (v : ℕ) (rest : List ℕ) → all (all is_digit) (pieces text) ≡ true
+    → collect v (text ++ 10 ∷ rest) ≡ overs v (pieces text) ++ collect 0 rest
 collect-parts [] v rest h = unfold class_of in refl
 collect-parts (b ∷ text) v rest h =
     go (eqb b 44) refl h (pieces_some text) (λ w g. collect-parts text w rest g)
