@@ -1,5 +1,5 @@
 -- What each entry answers and what it leaves in what was lent, over the modulus n, refusals in document 01's order.
-use Rattle.std.specs.Prelude.{List, [], ◌∷◌, ◌++◌, ℕ, ◌+◌, eqb, drop, replicate}
+use Rattle.std.specs.Prelude.{List, [], ◌∷◌, ◌++◌, ℕ, eqb, drop, replicate}
 use Rattle.refusals.specs.First.{Rule, ◌when◌, Answer, decide, first, choose, either, outside}
 use Rattle.sumcheck.specs.Function.{f, true_sum}
 use Rattle.sumcheck.specs.TruePolynomial.{true_polynomials}
