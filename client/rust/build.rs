@@ -58,31 +58,33 @@ fn archive() -> Result<PathBuf, String> {
     if built.is_file() {
         Ok(built)
     } else {
-        Err(format!("`rt staticlib sendurafi` ended well but left no {}", built.display()))
+        Err(format!("tools/archive ended well but left no {}", built.display()))
     }
 }
 
 /// Proves and compiles the library, which takes some minutes.
 fn build(root: &Path) -> Result<(), String> {
     let help = format!(
-        "Build the archive with `rt staticlib sendurafi` at the root of the repository, \
+        "Build the archive with tools/archive at the root of the repository, which needs rt, \
          or set {} to the path of a libsendurafi.a.",
         VARIABLE
     );
     if !root.join("crates/sendurafi").is_dir() {
         return Err(format!("there is no {}, and no library to build beside it. {}", BUILT, help));
     }
-    let ran = Command::new("rt").args(["staticlib", "sendurafi"]).current_dir(root).output();
+    let ran = Command::new(root.join("tools/archive")).output();
     match ran {
         Ok(output) if output.status.success() => Ok(()),
         Ok(output) => Err(format!(
-            "there is no {}, and `rt staticlib sendurafi` failed ({}). {}\n{}{}",
+            "there is no {}, and tools/archive failed ({}). {}\n{}{}",
             BUILT,
             output.status,
             help,
             String::from_utf8_lossy(&output.stdout),
             String::from_utf8_lossy(&output.stderr)
         )),
-        Err(e) => Err(format!("there is no {}, and rt cannot be run ({}). {}", BUILT, e, help)),
+        Err(e) => {
+            Err(format!("there is no {}, and tools/archive cannot be run ({}). {}", BUILT, e, help))
+        }
     }
 }

@@ -132,7 +132,7 @@ class SameNames(unittest.TestCase):
         self.assertTrue(sources, f"no Rattle source in {RATTLE}")
         text = "\n".join(source.read_text() for source in sources)
         self.compare(rust_like(text))
-        exported = re.findall(r"#\[no_mangle\]\s*pub extern \"C\" fn (\w+)", text)
+        exported = re.findall(r"#\[unsafe\(no_mangle\)\]\s*pub extern \"C\" fn (\w+)", text)
         self.assertEqual(sorted(exported), sorted(c_header()[0]))
 
 

@@ -14,34 +14,44 @@ use narrow_prover::prove::prove;
 use narrow_steps::state::State;
 use narrow_tables::sum::true_sum;
 use show::{list, number, verdict};
+use std::io;
 
 // P7, the sum.
-fn sum(tables: &[u32]) {
+fn sum(rt: &impl Print, tables: &[u32]) -> io::Result<()> {
     if let Answer::Given(x) = true_sum(2, 2, tables) {
-        number(x);
+        number(rt, x)?;
     }
+    Ok(())
 }
 
 // P7 and P8: the rounds, the list one place longer and scratch two.
-fn prover(tables: &[u32], challenges: &[u32]) {
+fn prover(rt: &impl Print, tables: &[u32], challenges: &[u32]) -> io::Result<()> {
     let mut messages = [8u32; 7];
     let mut scratch = [9u32; 10];
     if let Proof::Done = prove(2, 2, tables, challenges, &mut messages, &mut scratch) {
-        list(&messages);
-        list(&scratch);
+        list(rt, &messages)?;
+        list(rt, &scratch)?;
     }
+    Ok(())
 }
 
 // P9: the verdict, and the last value without tables.
-fn checker(tables: &[u32], claim: u32, challenges: &[u32], messages: &[u32]) {
-    verdict(check(2, 2, tables, claim, challenges, messages));
+fn checker(
+    rt: &impl Print,
+    tables: &[u32],
+    claim: u32,
+    challenges: &[u32],
+    messages: &[u32],
+) -> io::Result<()> {
+    verdict(rt, check(2, 2, tables, claim, challenges, messages))?;
     if let Rounds::Reached(x) = check_rounds(2, 2, claim, challenges, messages) {
-        number(x);
+        number(rt, x)?;
     }
+    Ok(())
 }
 
 // The file, and P9 with what was read.
-fn file(tables: &[u32], challenges: &[u32], bytes: &[u8]) {
+fn file(rt: &impl Print, tables: &[u32], challenges: &[u32], bytes: &[u8]) -> io::Result<()> {
     let mut messages = [8u32; 6];
     if let Reply::File {
         vars,
@@ -49,61 +59,66 @@ fn file(tables: &[u32], challenges: &[u32], bytes: &[u8]) {
         claim,
     } = read(bytes, &mut messages)
     {
-        number(vars);
-        number(degree);
-        number(claim);
-        list(&messages);
-        checker(tables, claim, challenges, &messages);
+        number(rt, vars)?;
+        number(rt, degree)?;
+        number(rt, claim)?;
+        list(rt, &messages)?;
+        checker(rt, tables, claim, challenges, &messages)?;
     }
+    Ok(())
 }
 
 // The cases of the tables 0, 1, 2, 0 and 3, 4, 1, 2.
-fn two_tables(tables: &[u32], challenges: &[u32], bytes: &[u8]) {
-    io::write_all(
-        1,
-        b"P7 sum, P7 and P8 rounds with a place to spare, scratch with two, the file, P9\n",
-    );
-    sum(tables);
-    prover(tables, challenges);
-    file(tables, challenges, bytes);
+fn two_tables(rt: &impl Print, tables: &[u32], challenges: &[u32], bytes: &[u8]) -> io::Result<()> {
+    println!(rt; "P7 sum, P7 and P8 rounds with a place to spare, scratch with two, the file, P9")?;
+    sum(rt, tables)?;
+    prover(rt, tables, challenges)?;
+    file(rt, tables, challenges, bytes)
 }
 
 // The false claim 11 of the table 3, 4, 1, 2.
-fn one_table(table: &[u32], lucky: &[u32], other: &[u32], messages: &[u32]) {
-    io::write_all(1, b"P10, P11\n");
-    verdict(check(2, 1, table, 11, lucky, messages));
-    verdict(check(2, 1, table, 11, other, messages));
+fn one_table(
+    rt: &impl Print,
+    table: &[u32],
+    lucky: &[u32],
+    other: &[u32],
+    messages: &[u32],
+) -> io::Result<()> {
+    println!(rt; "P10, P11")?;
+    verdict(rt, check(2, 1, table, 11, lucky, messages))?;
+    verdict(rt, check(2, 1, table, 11, other, messages))
 }
 
 // P11 in steps: the running claim after round 1, and what closing says after round 2.
-fn steps(one: &[u32], two: &[u32]) {
-    io::write_all(1, b"P11 in steps\n");
+fn steps(rt: &impl Print, one: &[u32], two: &[u32]) -> io::Result<()> {
+    println!(rt; "P11 in steps")?;
     let opened = State::open(2, 1, 11);
     let start = opened.state;
     let first = start.step(one, 5);
     let next = first.state;
-    number(next.claim);
+    number(rt, next.claim)?;
     let second = next.step(two, 9);
     let last = second.state;
     let closed = last.close(0);
     let end = closed.outcome;
-    verdict(end);
+    verdict(rt, end)
 }
 
 // P12.
-fn no_variables(tables: &[u32], none: &[u32]) {
-    io::write_all(1, b"P12\n");
-    verdict(check(0, 2, tables, 35, none, none));
-    verdict(check(0, 2, tables, 36, none, none));
+fn no_variables(rt: &impl Print, tables: &[u32], none: &[u32]) -> io::Result<()> {
+    println!(rt; "P12")?;
+    verdict(rt, check(0, 2, tables, 35, none, none))?;
+    verdict(rt, check(0, 2, tables, 36, none, none))
 }
 
-fn main() {
+fn main(rt: HostRuntime) -> io::Result<()> {
     two_tables(
+        &rt,
         &[0, 1, 2, 0, 3, 4, 1, 2],
         &[3, 1],
         b"sumproof=1\nfield=2147483647\nvars=2\ndegree=2\nclaim=6\nround=4,0,2147483645\nround=2147483629,30,2147483639\nend=2\n",
-    );
-    one_table(&[3, 4, 1, 2], &[0, 9], &[5, 9], &[7, 2147483644, 3, 1]);
-    steps(&[7, 2147483644], &[3, 1]);
-    no_variables(&[5, 7], &[]);
+    )?;
+    one_table(&rt, &[3, 4, 1, 2], &[0, 9], &[5, 9], &[7, 2147483644, 3, 1])?;
+    steps(&rt, &[7, 2147483644], &[3, 1])?;
+    no_variables(&rt, &[5, 7], &[])
 }

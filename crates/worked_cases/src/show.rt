@@ -1,35 +1,33 @@
 // Printing answers, each on a line of its own.
 use narrow_checker::Verdict;
+use std::io;
 
 // A number.
-pub fn number(x: u32) {
-    io::write_all(1, b" ");
-    io::print_decimal(1, x as u64);
-    io::write_all(1, b"\n");
+pub fn number(rt: &impl Print, x: u32) -> io::Result<()> {
+    println!(rt; " {x}")
 }
 
 // Each number of a list.
-pub fn list(numbers: &[u32]) {
+pub fn list(rt: &impl Print, numbers: &[u32]) -> io::Result<()> {
     let mut i: usize = 0;
     while i < numbers.len() {
-        number(numbers[i]);
+        number(rt, numbers[i])?;
         i += 1;
     }
+    Ok(())
 }
 
 // What the checker and closing answer.
-pub fn verdict(answer: Verdict) {
+pub fn verdict(rt: &impl Print, answer: Verdict) -> io::Result<()> {
     match answer {
-        Verdict::Accepted => {
-            io::write_all(1, b" accepted\n");
-        }
+        Verdict::Accepted => println!(rt; " accepted"),
         Verdict::Rejected(round) => {
-            io::write_all(1, b" rejected, round");
-            number(round);
+            print!(rt; " rejected, round")?;
+            number(rt, round)
         }
         Verdict::Refused(refusal) => {
-            io::write_all(1, b" refused,");
-            number(refusal);
+            print!(rt; " refused,")?;
+            number(rt, refusal)
         }
     }
 }
