@@ -1,10 +1,10 @@
 // Answers in numbers.
 ghost use Rattle.std.specs.Prelude.{◌≡◌};
-ghost use Rattle.narrow_field.specs.Field.{said as saidNumber};
-ghost use Rattle.narrow_prover.specs.Proved.{said as saidProof};
-ghost use Rattle.narrow_checker.specs.Said.{said as saidVerdict, said_rounds};
-ghost use Rattle.narrow_steps.specs.Said.{said_opening, said_step, said_opened, said_stepped, state_of as checkerState};
-ghost use Rattle.narrow_file.specs.Narrow.{said as saidReply};
+ghost use Rattle.narrow_field.specs.Field.{said as said_number};
+ghost use Rattle.narrow_prover.specs.Proved.{said as said_proof};
+ghost use Rattle.narrow_checker.specs.Said.{said as said_verdict, said_rounds};
+ghost use Rattle.narrow_steps.specs.Said.{said_opening, said_step, said_opened, said_stepped, state_of as checker_state};
+ghost use Rattle.narrow_file.specs.Narrow.{said as said_reply};
 ghost use Rattle.coded.specs.Coded.{with_value, with_round, turned_down, of_number, of_done, of_verdict, of_rounds, of_opening, of_step, of_opened, of_stepped, of_head, of_state, state_of, bit};
 
 use crate::{Answer, File, State, Stepped};
@@ -52,7 +52,7 @@ fn refused(number: u32) -> Answer
 
 // A number's answer.
 pub fn of_number(a: narrow_field::Answer) -> Answer
-    ensures { result ≡ of_number (saidNumber a) }
+    ensures { result ≡ of_number (said_number a) }
 {
     match a {
         narrow_field::Answer::Given(x) => valued(x),
@@ -62,7 +62,7 @@ pub fn of_number(a: narrow_field::Answer) -> Answer
 
 // The prover's answer.
 pub fn of_proof(a: Proof) -> Answer
-    ensures { result ≡ of_done (saidProof a) }
+    ensures { result ≡ of_done (said_proof a) }
 {
     match a {
         Proof::Done => valued(0),
@@ -72,7 +72,7 @@ pub fn of_proof(a: Proof) -> Answer
 
 // A verdict.
 pub fn of_verdict(a: Verdict) -> Answer
-    ensures { result ≡ of_verdict (saidVerdict a) }
+    ensures { result ≡ of_verdict (said_verdict a) }
 {
     match a {
         Verdict::Accepted => valued(0),
@@ -94,7 +94,7 @@ pub fn of_rounds(a: Rounds) -> Answer
 
 // A file's head.
 pub fn of_reply(a: Reply) -> File
-    ensures { result ≡ of_head (saidReply a) }
+    ensures { result ≡ of_head (said_reply a) }
 {
     match a {
         Reply::File {
@@ -129,7 +129,7 @@ fn bit_of(mark: bool) -> u32
 
 // The checker's state in numbers.
 fn of_state(s: narrow_steps::state::State) -> State
-    ensures { result ≡ of_state (checkerState s) }
+    ensures { result ≡ of_state (checker_state s) }
 {
     let rejected = bit_of(s.rejected);
     State {
@@ -143,7 +143,7 @@ fn of_state(s: narrow_steps::state::State) -> State
 
 // The checker's state from numbers.
 pub fn from_state(s: State) -> narrow_steps::state::State
-    ensures { checkerState result ≡ state_of s }
+    ensures { checker_state result ≡ state_of s }
 {
     narrow_steps::state::State {
         vars: s.vars,

@@ -6,7 +6,7 @@ pub mod code;
 // An answer in numbers. kind 0: given, done, accepted or reached, with the value where there is one; 1: rejected, number is the round; 2: refused,
 // number is the refusal, line its line where it has one.
 #[repr(C)]
-#[derive(Drop)]
+#[derive(Clone, Copy)]
 pub struct Answer {
     pub kind: u32,
     pub number: u32,
@@ -16,7 +16,7 @@ pub struct Answer {
 
 // The checker's state. Any number but 0 is a rejected mark.
 #[repr(C)]
-#[derive(Drop)]
+#[derive(Clone, Copy)]
 pub struct State {
     pub vars: u32,
     pub degree: u32,
@@ -27,7 +27,7 @@ pub struct State {
 
 // What a call on a state hands back.
 #[repr(C)]
-#[derive(Drop)]
+#[derive(Clone, Copy)]
 pub struct Stepped {
     pub state: State,
     pub answer: Answer,
@@ -35,7 +35,7 @@ pub struct Stepped {
 
 // A file's head, or a refusal with its line.
 #[repr(C)]
-#[derive(Drop)]
+#[derive(Clone, Copy)]
 pub struct File {
     pub kind: u32,
     pub number: u32,
@@ -47,7 +47,7 @@ pub struct File {
 
 // A part of the caller's list.
 #[repr(C)]
-#[derive(Drop)]
+#[derive(Clone, Copy)]
 pub struct Part {
     pub start: usize,
     pub length: usize,

@@ -25,7 +25,7 @@ end_test b = go (class_of b) (means b)
     go bytes.digit h = sym (ne_eqb b 10 (λ e. omega arith))
     go bytes.comma h = sym (ne_eqb b 10 (λ e. omega arith))
     go bytes.equals h = sym (ne_eqb b 10 (λ e. omega arith))
-    go bytes.lineEnd h = sym (eq-eqb b 10 h)
+    go bytes.line_end h = sym (eq-eqb b 10 h)
     go bytes.letter h = sym (ne_eqb b 10 (λ e. omega arith))
     go bytes.other h = sym (ne_eqb b 10 h.3)
 

@@ -18,7 +18,7 @@ abbrev back : bytes.Class → Class
 back bytes.digit = Digit
 back bytes.comma = Comma
 back bytes.equals = Equals
-back bytes.lineEnd = LineEnd
+back bytes.line_end = LineEnd
 back bytes.letter = Letter
 back bytes.other = Other
 

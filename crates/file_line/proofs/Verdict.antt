@@ -270,7 +270,7 @@ module _ (w : Wanted) (word : List ℕ) (limit : w.high ≤ greatest) where
       go bytes.equals e m f g =
           let r = rw e at m in
           numbers-other k a ds next b text (between_high 48 57 b (omega arith)) (λ z. omega arith) (rw e)
-      go bytes.lineEnd e m f g =
+      go bytes.line_end e m f g =
           let r = rw e at m in
           numbers-other k a ds next b text (between_low 48 57 b (omega arith)) (λ z. omega arith) (rw e)
       go bytes.letter e m f g =

@@ -77,7 +77,7 @@ module _ (w : Wanted) (word : List ℕ) (limit : w.high ≤ greatest) (size : �
           bad (rw f (letter_past word (length pre) c (omega (arith, ap length (e ∙ append-nil pre))))) (λ z. omega arith)
       go bytes.digit f m = let r = rw f at m in bad (rw f) (λ z. omega arith)
       go bytes.comma f m = let r = rw f at m in bad (rw f) (λ z. omega arith)
-      go bytes.lineEnd f m = let r = rw f at m in bad (rw f) (λ z. omega arith)
+      go bytes.line_end f m = let r = rw f at m in bad (rw f) (λ z. omega arith)
       go bytes.other f m = let r = rw f at m in bad (rw f) r.2
 
   reads_letter : (pre ks rest : List ℕ) (k c : ℕ) (text : List ℕ) → word ≡ pre ++ k ∷ ks → is_letter k ≡ true
@@ -99,7 +99,7 @@ module _ (w : Wanted) (word : List ℕ) (limit : w.high ≤ greatest) (size : �
       other bytes.equals f z = bad (rw f (open_wrong w word (length pre) (λ y. omega (arith, place)))) z
       other bytes.digit f z = bad (rw f) z
       other bytes.comma f z = bad (rw f) z
-      other bytes.lineEnd f z = bad (rw f) z
+      other bytes.line_end f z = bad (rw f) z
       other bytes.other f z = bad (rw f) z
 
       same : (t : Bool) → eqb c k ≡ t → Reads pre (k ∷ ks) rest (c ∷ text)

@@ -20,7 +20,7 @@ abbrev pub meant : Class → bytes.Class
 meant Digit = bytes.digit
 meant Comma = bytes.comma
 meant Equals = bytes.equals
-meant LineEnd = bytes.lineEnd
+meant LineEnd = bytes.line_end
 meant Letter = bytes.letter
 meant Other = bytes.other
 

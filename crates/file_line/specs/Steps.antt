@@ -12,7 +12,7 @@ use Rattle.file_line.specs.OneLine.{Brief, stopped, went}
 
 -- the class of line ends
 abbrev pub is_end : bytes.Class → Bool
-is_end bytes.lineEnd = true
+is_end bytes.line_end = true
 is_end bytes.digit = false
 is_end bytes.comma = false
 is_end bytes.equals = false
@@ -64,14 +64,14 @@ in_word wanted word letters b bytes.letter = with_letter word letters b
 in_word wanted word letters b bytes.equals = opened wanted word letters
 in_word wanted word letters b bytes.digit = Bad
 in_word wanted word letters b bytes.comma = Bad
-in_word wanted word letters b bytes.lineEnd = Bad
+in_word wanted word letters b bytes.line_end = Bad
 in_word wanted word letters b bytes.other = Bad
 
 abbrev pub in_numbers : Wanted → Number → ℕ → bytes.Class → State
 in_numbers wanted n b bytes.digit = with_digit wanted n b
 in_numbers wanted n b bytes.comma = with_comma wanted n
 in_numbers wanted n b bytes.equals = Bad
-in_numbers wanted n b bytes.lineEnd = Bad
+in_numbers wanted n b bytes.line_end = Bad
 in_numbers wanted n b bytes.letter = Bad
 in_numbers wanted n b bytes.other = Bad
 

@@ -9,7 +9,7 @@ use super::state::State;
 use super::{class, ending, state};
 
 // The words that a line may begin with.
-#[derive(Drop)]
+#[derive(Clone, Copy)]
 pub enum Word {
     Sumproof,
     Field,
@@ -32,7 +32,7 @@ pub struct Wanted {
 }
 
 // What is found where a line is expected: a refusal; or the line's last number, and where the next line starts.
-#[derive(Drop)]
+#[derive(Clone, Copy)]
 pub enum Line {
     Refused { number: u32, line: u32 },
     Found { last: u64, next: usize },

@@ -5,7 +5,7 @@ use Prim.Native.Nat.{ℕ, ◌≤◌, ◌<◌}
 use native.Mathlib.Omega.{arith}
 use lib.Dec.{eqb}
 use borrow.Author.Tests.{ne_eqb, eqb-true, eqb-false}
-use Rattle.layout.specs.Bytes.{Class, digit, comma, equals, lineEnd, letter, other, is_digit, is_letter, class_of}
+use Rattle.layout.specs.Bytes.{Class, digit, comma, equals, line_end, letter, other, is_digit, is_letter, class_of}
 use Rattle.layout.proofs.Tests.{between_in, between_high, between_holds}
 
 pub class_digit : (b : ℕ) → 48 ≤ b → b < 58 → class_of b ≡ digit
@@ -20,7 +20,7 @@ pub class_equals : (b : ℕ) → b ≡ 61 → class_of b ≡ equals
 unfolding class_of
 class_equals b e = rw e
 
-pub class_line_end : (b : ℕ) → b ≡ 10 → class_of b ≡ lineEnd
+pub class_line_end : (b : ℕ) → b ≡ 10 → class_of b ≡ line_end
 unfolding class_of
 class_line_end b e = rw e
 
@@ -45,7 +45,7 @@ abbrev pub Means : Class → ℕ → Type 0
 Means digit b = (48 ≤ b) × (b ≤ 57)
 Means comma b = b ≡ 44
 Means equals b = b ≡ 61
-Means lineEnd b = b ≡ 10
+Means line_end b = b ≡ 10
 Means letter b = (97 ≤ b) × (b ≤ 122)
 Means other b = (is_digit b ≡ false) × (b ≡ 44 → ⊥) × (b ≡ 61 → ⊥) × (b ≡ 10 → ⊥)
 

@@ -4,7 +4,7 @@ use Rattle.refusals.specs.First.{choose}
 
 -- "Every byte falls in one class: digit, comma, equals, line end, small letter, other."
 pub data Class : Type 0 where
-  digit comma equals lineEnd letter other : Class
+  digit comma equals line_end letter other : Class
 
 -- low, high or a number between them
 abbrev pub within : ℕ → ℕ → ℕ → Bool
@@ -22,7 +22,7 @@ is_letter b = within 97 122 b
 unfoldable pub class_of : ℕ → Class
 class_of b =
     choose (is_digit b) digit
-    (choose (eqb b 44) comma (choose (eqb b 61) equals (choose (eqb b 10) lineEnd (choose (is_letter b) letter other))))
+    (choose (eqb b 44) comma (choose (eqb b 61) equals (choose (eqb b 10) line_end (choose (is_letter b) letter other))))
 
 -- a first line and the bytes after its line end; or bytes with no line end
 pub data Cut : Type 0 where

@@ -1,7 +1,7 @@
 // Products and sums of polynomials in an array value. Every function takes every input.
 ghost use Rattle.std.specs.Prelude.{◌≡◌};
 ghost use Rattle.arithmetic.specs.Modulo.{sub};
-ghost use Rattle.polynomial.specs.Polynomial.{plus as plusOf};
+ghost use Rattle.polynomial.specs.Polynomial.{plus as plus_of};
 ghost use Rattle.polynomial.specs.Array.{line_times};
 ghost use Rattle.narrow_field.specs.Narrow.{p};
 
@@ -22,7 +22,7 @@ pub fn line_times(c: [u32; 4], low: u32, high: u32) -> [u32; 4]
 
 // The sum of two polynomials.
 pub fn added(a: [u32; 4], b: [u32; 4]) -> [u32; 4]
-    ensures { result ≡ plusOf p a b }
+    ensures { result ≡ plus_of p a b }
 {
     [
         plus(a[0], b[0]),

@@ -5,7 +5,7 @@ pub mod whole;
 pub mod without_tables;
 
 // What the checker and closing answer.
-#[derive(Drop)]
+#[derive(Clone, Copy)]
 pub enum Verdict {
     Accepted,
     Rejected(u32),
@@ -13,7 +13,7 @@ pub enum Verdict {
 }
 
 // What the checker without tables answers: the last value, the first round whose sum fails, or the number of a refusal.
-#[derive(Drop)]
+#[derive(Clone, Copy)]
 pub enum Rounds {
     Reached(u32),
     Rejected(u32),

@@ -10,7 +10,7 @@ pub mod modulo;
 pub const P: u32 = 2147483647;
 
 // What an operation answers: a value, or the number of a refusal.
-#[derive(Drop)]
+#[derive(Clone, Copy)]
 pub enum Answer {
     Given(u32),
     Refused(u32),

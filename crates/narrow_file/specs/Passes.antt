@@ -1,7 +1,7 @@
 -- What the inner functions of the two passes promise. Nothing that a caller is promised rests on this file.
 use Rattle.std.specs.Prelude.{Bool, true, false, List, [], ◌∷◌, ◌++◌, ℕ, ◌+◌, ◌-◌, ◌*◌, ◌%◌, ◌^◌, length, take, drop}
 use Rattle.refusals.specs.First.{choose}
-use Rattle.layout.specs.Bytes.{Class, digit, comma, equals, lineEnd, letter, other, class_of}
+use Rattle.layout.specs.Bytes.{Class, digit, comma, equals, line_end, letter, other, class_of}
 use Rattle.layout.specs.Line.{Outcome, fault, found}
 use Rattle.layout.specs.Reading.{Reading, file, refused_at}
 use Rattle.narrow_file.specs.declared.lines.Judged.{Judged}
@@ -17,7 +17,7 @@ one_number line low high = record { line = line; commas = 0; digits = 10; low = 
 -- the second pass takes a number's end for the place to store it
 abbrev pub stores : Class → Bool
 stores comma = true
-stores lineEnd = true
+stores line_end = true
 stores digit = false
 stores equals = false
 stores letter = false
@@ -28,7 +28,7 @@ abbrev pub carried : ℕ → ℕ → Class → ℕ
 carried v b digit = (v * 10 + (b - 48)) % 2 ^ 32
 carried v b comma = v
 carried v b equals = v
-carried v b lineEnd = v
+carried v b line_end = v
 carried v b letter = v
 carried v b other = v
 

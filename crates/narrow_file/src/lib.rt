@@ -12,7 +12,7 @@ use lines::Judged;
 
 // What reading a file answers: the file's head, its coefficients being in the lent list; or a refusal's number and its line, 0 for
 // refusals 9 and 4.
-#[derive(Drop)]
+#[derive(Clone, Copy)]
 pub enum Reply {
     File { vars: u32, degree: u32, claim: u32 },
     Refused { number: u32, line: u32 },

@@ -11,7 +11,7 @@ use file_line::line;
 use file_line::line::{Line, Wanted, Word};
 
 // What the first pass finds: a refusal; or the file's head, and where its rounds start.
-#[derive(Drop)]
+#[derive(Clone, Copy)]
 pub enum Judged {
     Refused {
         number: u32,

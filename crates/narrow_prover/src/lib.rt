@@ -8,7 +8,7 @@ pub mod prove;
 pub mod round;
 
 // What the prover answers: done, or the number of a refusal.
-#[derive(Drop)]
+#[derive(Clone, Copy)]
 pub enum Proof {
     Done,
     Refused(u32),

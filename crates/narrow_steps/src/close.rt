@@ -11,7 +11,7 @@ use narrow_checker::Verdict;
 use narrow_field::field::is_outside;
 
 // What closing hands back: the state, and its outcome.
-#[derive(Drop)]
+#[derive(Clone, Copy)]
 pub struct Closed {
     pub state: State,
     pub outcome: Verdict,

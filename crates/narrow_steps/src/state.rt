@@ -20,14 +20,14 @@ pub struct State {
 }
 
 // Opening answers no more than that it was not refused.
-#[derive(Drop)]
+#[derive(Clone, Copy)]
 pub enum Opening {
     Opened,
     Refused(u32),
 }
 
 // What opening hands back: the state, and its outcome.
-#[derive(Drop)]
+#[derive(Clone, Copy)]
 pub struct Opened {
     pub state: State,
     pub outcome: Opening,

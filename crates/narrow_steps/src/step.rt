@@ -13,7 +13,7 @@ use narrow_lent::judge;
 use narrow_lent::lengths::wide;
 
 // A step's round: its sum fits, or it rejects, with its round.
-#[derive(Drop)]
+#[derive(Clone, Copy)]
 pub enum Step {
     Fits,
     Rejects(u32),
@@ -21,7 +21,7 @@ pub enum Step {
 }
 
 // What a step hands back: the state, and its outcome.
-#[derive(Drop)]
+#[derive(Clone, Copy)]
 pub struct Stepped {
     pub state: State,
     pub outcome: Step,

@@ -24,35 +24,35 @@ u = 0 ∷ 1 ∷ 2 ∷ 0 ∷ []
 prime_11 : Prime 11
 prime_11 = prime_by_trial 11 2 (omega arith) (omega arith) (unfold undivided_from in tt)
 
-pairs : true_sum 5 (u ∷ t ∷ []) 2 ≡ 1
-unfolding ManyTables count_from
-pairs = many_tables 5 (omega arith) (u ∷ t ∷ []) 2
-
 pair : true_sum 11 ((5 ∷ []) ∷ (7 ∷ []) ∷ []) 0 ≡ 2
 unfolding ManyTables count_from
 pair = many_tables 11 (omega arith) ((5 ∷ []) ∷ (7 ∷ []) ∷ []) 0
+
+pairs : true_sum 5 (u ∷ t ∷ []) 2 ≡ 1
+unfolding ManyTables count_from
+pairs = many_tables 5 (omega arith) (u ∷ t ∷ []) 2
 
 wrapped : true_sum 7 (t ∷ []) 2 ≡ 3
 unfolding OneTable
 wrapped = one_table 7 (omega arith) t 2 refl
 
+balance : true_sum 11 ((9 ∷ []) ∷ []) 0 ≡ 9
+unfolding TotalItself
+balance = total_itself 11 (9 ∷ []) 0 refl (omega arith)
+
 whole : true_sum 11 (t ∷ []) 2 ≡ 10
 unfolding TotalItself
 whole = total_itself 11 t 2 refl (omega arith)
 
-balance : true_sum 11 ((9 ∷ []) ∷ []) 0 ≡ 9
-unfolding TotalItself
-balance = total_itself 11 (9 ∷ []) 0 refl (omega arith)
+at_most_lem : true_sum 36 ((5 ∷ []) ∷ (7 ∷ []) ∷ []) 0 ≡ 35
+unfolding CallersRule count_from
+at_most_lem = callers_rule 36 ((5 ∷ []) ∷ (7 ∷ []) ∷ []) 0 (5 ∷ 7 ∷ []) ((omega arith, tt), ((omega arith, tt), tt)) (omega arith)
 
 bounded : true_sum 33 (u ∷ t ∷ []) 2 ≡ 6
 unfolding CallersRule count_from
 bounded =
     callers_rule 33 (u ∷ t ∷ []) 2 (2 ∷ 4 ∷ [])
     ((omega arith, (omega arith, (omega arith, (omega arith, tt)))), ((omega arith, (omega arith, (omega arith, (omega arith, tt)))), tt)) (omega arith)
-
-at_most_lem : true_sum 36 ((5 ∷ []) ∷ (7 ∷ []) ∷ []) 0 ≡ 35
-unfolding CallersRule count_from
-at_most_lem = callers_rule 36 ((5 ∷ []) ∷ (7 ∷ []) ∷ []) 0 (5 ∷ 7 ∷ []) ((omega arith, tt), ((omega arith, tt), tt)) (omega arith)
 
 -- P3 and P4
 seven : true_polynomial 11 (t ∷ []) [] 1 ≡ 7 ∷ 7 ∷ []

@@ -8,4 +8,4 @@ abbrev pub invariant-loop-i : goal.invariant-loop-i
 invariant-loop-i l = (l.i ≤ suc max_degree) × (l.i ≤ length l.message) × (l.c ≡ filled (suc max_degree) l.message l.i)
 
 abbrev pub decreases-loop-i : goal.decreases-loop-i
-decreases-loop-i l = 4 - l.i
+decreases-loop-i l = suc max_degree - l.i

@@ -5,6 +5,10 @@ use Rattle.file_line.proofs.Told.{then_refused}
 use Rattle.narrow_file.proofs.Chain.{end_line_lem, end_some, end_none}
 use Rattle.narrow_file.proofs.lines.from_end.Goals as goal
 
+pub returns-else-next-bytes : goal.returns-else-next-bytes
+returns-else-next-bytes c =
+    end_none c.args.bytes.now c.args.at c.args.vars c.args.degree c.args.claim _ _ c.one_number-found.ensures c.in-Found.is c.if-next-bytes.false
+
 pub returns-in-Refused : goal.returns-in-Refused
 unfolding from_end
 returns-in-Refused c =
@@ -13,7 +17,3 @@ returns-in-Refused c =
 pub returns-then-next-bytes : goal.returns-then-next-bytes
 returns-then-next-bytes c =
     end_some c.args.bytes.now c.args.at c.args.vars c.args.degree c.args.claim _ _ c.one_number-found.ensures c.in-Found.is c.if-next-bytes.true
-
-pub returns-else-next-bytes : goal.returns-else-next-bytes
-returns-else-next-bytes c =
-    end_none c.args.bytes.now c.args.at c.args.vars c.args.degree c.args.claim _ _ c.one_number-found.ensures c.in-Found.is c.if-next-bytes.false

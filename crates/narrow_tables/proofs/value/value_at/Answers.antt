@@ -7,6 +7,15 @@ use Rattle.sumcheck.proofs.Answers.{value-outside, value_point, value-given, pla
 use Rattle.narrow_field.specs.Narrow.{p}
 use Rattle.narrow_tables.proofs.value.value_at.Goals as goal
 
+pub returns : goal.returns
+returns c =
+    let a = c.args in
+    let zero = sym c.tables-refusal.ensures ∙ c.if-refusal-ne0.false in
+    let right = placed a.vars a.degree (length a.tables.now) c.size-places.result zero c.size-places.ensures in
+    ap given (c.product_at.ensures ∙ ap (λ (s : ℕ). f p (parts a.degree s a.tables.now) a.point.now) right.places)
+    ∙ value-given p a.vars a.degree a.tables.now a.point.now zero c.if-point-vars.false (sym c.tables_outside.ensures ∙ c.if-tables_outside.false)
+    (sym c.is_outside.ensures ∙ c.if-is_outside.false)
+
 pub returns-then-tables_outside : goal.returns-then-tables_outside
 returns-then-tables_outside c =
     let a = c.args in
@@ -18,12 +27,3 @@ returns-then-is_outside c =
     let a = c.args in
     value_point p a.vars a.degree a.tables.now a.point.now (sym c.tables-refusal.ensures ∙ c.if-refusal-ne0.false) c.if-point-vars.false
     (sym c.tables_outside.ensures ∙ c.if-tables_outside.false) (sym c.is_outside.ensures ∙ c.if-is_outside.true)
-
-pub returns : goal.returns
-returns c =
-    let a = c.args in
-    let zero = sym c.tables-refusal.ensures ∙ c.if-refusal-ne0.false in
-    let right = placed a.vars a.degree (length a.tables.now) c.size-places.result zero c.size-places.ensures in
-    ap given (c.product_at.ensures ∙ ap (λ (s : ℕ). f p (parts a.degree s a.tables.now) a.point.now) right.places)
-    ∙ value-given p a.vars a.degree a.tables.now a.point.now zero c.if-point-vars.false (sym c.tables_outside.ensures ∙ c.if-tables_outside.false)
-    (sym c.is_outside.ensures ∙ c.if-is_outside.false)
