@@ -49,7 +49,8 @@ euclid_step (suc m) a r₀ r₁ s₀ s₁ h k ne =
       element = mod-lt (s₀ + neg (suc m) (mul (suc m) (r₀ / r₁) s₁)) (omega arith);
       first = k.second;
       second = remainder m a r₀ r₁ s₀ s₁ k.first k.second;
-      divides = λ (d : ℕ) (x : r₁ % d ≡ 0) (y : (r₀ % r₁) % d ≡ 0). k.divides d (mod-eq-zero_of_dvd d ((dvd-mod_iff d (dvd_of_mod-eq-zero d x)).0 (dvd_of_mod-eq-zero d y))) x;
+      divides = λ (d : ℕ) (x : r₁ % d ≡ 0) (y : (r₀ % r₁) % d ≡ 0). k.divides d
+          (mod-eq-zero_of_dvd d ((dvd-mod_iff d (dvd_of_mod-eq-zero d x)).0 (dvd_of_mod-eq-zero d y))) x;
     }
   where
     met : r₀ % r₁ ≡ 0 → ⊥

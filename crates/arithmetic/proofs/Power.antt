@@ -22,7 +22,8 @@ pow_reduced n a (suc e) = mod-mod (a * pow n a e) n
 pub pow-add : (n a d e : ℕ) → pow n a (d + e) ≡ mul n (pow n a d) (pow n a e)
 unfolding pow
 pow-add n a zero e =
-    ap (pow n a) (zero-add e) ∙ (sym (pow_reduced n a e) ∙ same n (at (pow n a e)) ((at 1 ⊕ at 0) ⊗ at (pow n a e)) 0 0 (omega arith) ∙ ap (λ (x : ℕ). mul n x (pow n a e)) (add-zero-mod n 1))
+    ap (pow n a) (zero-add e) ∙ (sym (pow_reduced n a e) ∙ same n (at (pow n a e)) ((at 1 ⊕ at 0) ⊗ at (pow n a e)) 0 0 (omega arith)
+    ∙ ap (λ (x : ℕ). mul n x (pow n a e)) (add-zero-mod n 1))
 pow-add n a (suc d) e =
     ap (pow n a) (suc-add d e)
     ∙ (ap (mul n a) (pow-add n a d e)

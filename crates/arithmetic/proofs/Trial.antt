@@ -17,7 +17,8 @@ undivided_from n d (suc c) = elim (eqb (n % d) 0) [ true ↦ false | false ↦ u
 passed : (n d c e : ℕ) → T (undivided_from n d c) → d ≤ e → e < d + c → n % e ≡ 0 → ⊥
 unfolding undivided_from
 passed n d zero e t l u z = absurd (omega arith)
-passed n d (suc c) e t l u z = go (eqb (n % d) 0) refl t (λ (s : T (undivided_from n (suc d) c)) (l' : suc d ≤ e) (u' : e < suc d + c). passed n (suc d) c e s l' u' z)
+passed n d (suc c) e t l u z =
+    go (eqb (n % d) 0) refl t (λ (s : T (undivided_from n (suc d) c)) (l' : suc d ≤ e) (u' : e < suc d + c). passed n (suc d) c e s l' u' z)
   where
     go : (b : Bool) → eqb (n % d) 0 ≡ b → T (elim b as (λ _. Bool) [ true ↦ false | false ↦ undivided_from n (suc d) c ])
         → (T (undivided_from n (suc d) c) → suc d ≤ e → e < suc d + c → ⊥) → ⊥

@@ -42,7 +42,8 @@ same_list_equal [] [] t = refl
 same_list_equal [] (y ∷ ys) t = absurd t
 same_list_equal (x ∷ xs) [] t = absurd t
 same_list_equal (x ∷ xs) (y ∷ ys) t =
-    ap₂ {B = List ℕ} (λ (a : ℕ) (b : List ℕ). a ∷ b) (eqb→eq x y (left (eqb x y) (same_list xs ys) t)) (same_list_equal xs ys (right (eqb x y) (same_list xs ys) t))
+    ap₂ {B = List ℕ} (λ (a : ℕ) (b : List ℕ). a ∷ b) (eqb→eq x y (left (eqb x y) (same_list xs ys) t))
+    (same_list_equal xs ys (right (eqb x y) (same_list xs ys) t))
 
 abbrev same_verdict : Verdict → Verdict → Bool
 same_verdict accepted accepted = true
@@ -117,4 +118,5 @@ every-tested (c ∷ cs) t = (tested c (left (test c) (tests cs) t), every-tested
 pub every_case : EveryCase
 unfolding EveryCase
 every_case = every-tested cases
-    (unfold corners pow parts reading from_edition from_field from_vars from_degree from_claim from_rounds from_end lines_at line_at form numbers_of decimal digits in tt)
+    (unfold corners pow parts reading from_edition from_field from_vars from_degree from_claim from_rounds from_end lines_at line_at form numbers_of
+    decimal digits in tt)

@@ -5,7 +5,8 @@ ghost use Rattle.narrow_prover.specs.Proved.{said as said_proof};
 ghost use Rattle.narrow_checker.specs.Said.{said as said_verdict, said_rounds};
 ghost use Rattle.narrow_steps.specs.Said.{said_opening, said_step, said_opened, said_stepped, state_of as checker_state};
 ghost use Rattle.narrow_file.specs.Narrow.{said as said_reply};
-ghost use Rattle.coded.specs.Coded.{with_value, with_round, turned_down, of_number, of_done, of_verdict, of_rounds, of_opening, of_step, of_opened, of_stepped, of_head, of_state, state_of, bit};
+ghost use Rattle.coded.specs.Coded.{with_value, with_round, turned_down, of_number, of_done, of_verdict, of_rounds, of_opening, of_step, of_opened};
+ghost use Rattle.coded.specs.Coded.{of_stepped, of_head, of_state, state_of, bit};
 
 use crate::{Answer, File, State, Stepped};
 use narrow_checker::{Rounds, Verdict};

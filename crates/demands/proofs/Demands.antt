@@ -32,7 +32,8 @@ use Rattle.layout.proofs.Exact.{exactly}
 use Rattle.narrow_field.specs.Narrow.{p}
 use Rattle.narrow_file.specs.Narrow.{narrow, with_room, read_answer, after}
 use Rattle.demands.specs.Demands.{RefusesFirstAtP, ProverKeepsAtP, ReaderKeepsAtP, ProverWritesAtP, AcceptsExactlyAtP, RejectsFirstAtP}
-use Rattle.demands.specs.Demands.{WithoutTablesAtP, ReadsExactlyAtP, ReaderWritesAtP, message_at, CompleteAtP, ProverAcceptedAtP, LuckyAtP, SoundAtP, CertainAtP}
+use Rattle.demands.specs.Demands.{WithoutTablesAtP, ReadsExactlyAtP, ReaderWritesAtP, message_at, CompleteAtP, ProverAcceptedAtP, LuckyAtP, SoundAtP}
+use Rattle.demands.specs.Demands.{CertainAtP}
 
 pub refuses_first_at_p : RefusesFirstAtP
 unfolding RefusesFirstAtP RefusesFirst

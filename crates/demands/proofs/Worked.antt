@@ -115,7 +115,8 @@ lucky =
       differs = other;
       agrees = refl;
       few = λ xs u d a.
-          let l = agree_few p prime_31 (7 ∷ 2147483644 ∷ []) (7 ∷ 2147483643 ∷ []) xs refl (omega arith, (omega arith, tt)) (omega arith, (omega arith, tt)) other u d a in
+          let l = agree_few p prime_31 (7 ∷ 2147483644 ∷ []) (7 ∷ 2147483643 ∷ []) xs refl (omega arith, (omega arith, tt))
+          (omega arith, (omega arith, tt)) other u d a in
           omega arith;
     }
   where
@@ -174,7 +175,8 @@ none = none_exactly_at_p 2 (5 ∷ 7 ∷ [])
 
 -- the document's file is read into a list of six places, and of seven
 whole-read : (read_answer whole_file 6 ≡ file 2 2 6 proof) × (read_answer whole_file 7 ≡ file 2 2 6 proof)
-whole-read = unfold read_answer reading from_edition from_field from_vars from_degree from_claim from_rounds from_end lines_at line_at form numbers_of decimal digits in (refl, refl)
+whole-read = unfold read_answer reading from_edition from_field from_vars from_degree from_claim from_rounds from_end lines_at line_at form numbers_of
+    decimal digits in (refl, refl)
 
 written : file_of narrow 2 2 6 proof ≡ whole_file
 unfolding ReadBackAtP

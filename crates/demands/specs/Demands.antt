@@ -116,7 +116,8 @@ ProverAcceptedAtP = (vars degree : ℕ) (tables challenges messages scratch : Li
 pub record LuckyAtP (vars degree : ℕ) (tables challenges messages : List ℕ) (j : ℕ) : Type 0 where
   pub round : j < vars
   pub differs : message_at vars degree messages j ≡ polynomial_at vars degree tables challenges j → ⊥
-  pub agrees : value p (message_at vars degree messages j) (get_or challenges j 0) ≡ value p (polynomial_at vars degree tables challenges j) (get_or challenges j 0)
+  pub agrees : value p (message_at vars degree messages j) (get_or challenges j 0) ≡ value p (polynomial_at vars degree tables challenges j)
+      (get_or challenges j 0)
   pub few : (xs : List ℕ) → Elements p xs → Distinct xs
       → Every (λ (x : ℕ). value p (message_at vars degree messages j) x ≡ value p (polynomial_at vars degree tables challenges j) x) xs
       → length xs ≤ degree

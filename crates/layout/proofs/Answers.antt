@@ -12,7 +12,9 @@ use Rattle.refusals.specs.First.{choose}
 use Rattle.layout.specs.Bytes.{pieces}
 use Rattle.layout.specs.Number.{number_of}
 use Rattle.layout.specs.Line.{Line, Outcome, fault, found, line_at}
-use Rattle.layout.specs.Reading.{Layout, Reading, file, refused_at, reading, reading_then, only, lines_at, edition_line, field_line, vars_line, degree_line, claim_line, round_line, end_line, from_after, from_end, from_rounds, from_claim, from_degree, from_vars, from_field, from_edition}
+use Rattle.layout.specs.Reading.{Layout, Reading, file, refused_at, reading, reading_then, only, lines_at, edition_line, field_line, vars_line}
+use Rattle.layout.specs.Reading.{degree_line, claim_line, round_line, end_line, from_after, from_end, from_rounds, from_claim, from_degree, from_vars}
+use Rattle.layout.specs.Reading.{from_field, from_edition}
 use Rattle.layout.proofs.Lines.{found_good, lines_induction}
 
 -- what an answer that is a file went on from

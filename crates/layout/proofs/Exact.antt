@@ -10,7 +10,8 @@ use lib.Dec.{leb, ltb}
 use borrow.Author.Tests.{eqb-true, leb-true, ltb-true, eq-eqb, le-leb, lt-ltb, le-ltb}
 use Rattle.layout.specs.Number.{all, decimal}
 use Rattle.layout.specs.Line.{Line, found, line_at}
-use Rattle.layout.specs.Reading.{Layout, file, reading, only, edition_line, field_line, vars_line, degree_line, claim_line, round_line, end_line, from_end, from_rounds, from_claim, from_degree, from_vars, from_field, from_edition}
+use Rattle.layout.specs.Reading.{Layout, file, reading, only, edition_line, field_line, vars_line, degree_line, claim_line, round_line, end_line}
+use Rattle.layout.specs.Reading.{from_end, from_rounds, from_claim, from_degree, from_vars, from_field, from_edition}
 use Rattle.layout.specs.File.{line_of, lines_of, file_of, Writable, FileParts, Exactly, OneContent}
 use Rattle.layout.proofs.Tests.{both, between_holds, between_in}
 use Rattle.layout.proofs.Answers.{Whole, whole, found_count, lines_count}
@@ -173,7 +174,8 @@ module _ (layout : Layout) (v d c : ℕ) (cs : List ℕ) (some : (k : ℕ) → 1
   unfolding reading
   answered =
       rw (le-ltb layout.most_bytes (length (file_of layout v d c cs)) w.file_fits)
-      (unfold file_of in from_edition_lem _ ∙ (from_field_lem _ ∙ (from_vars_lem _ ∙ (from_degree_lem _ ∙ (from_claim_lem _ ∙ (from_rounds_lem _ ∙ from_end_lem))))))
+      (unfold file_of in from_edition_lem _
+      ∙ (from_field_lem _ ∙ (from_vars_lem _ ∙ (from_degree_lem _ ∙ (from_claim_lem _ ∙ (from_rounds_lem _ ∙ from_end_lem))))))
 
 pub exactly : Exactly
 exactly layout v d c cs bytes some = (

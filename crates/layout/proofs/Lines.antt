@@ -11,7 +11,8 @@ use borrow.Author.Tests.{eqb-true}
 use Rattle.refusals.specs.First.{choose}
 use Rattle.layout.specs.Bytes.{Cut, ended, unended, longer, first_line, pieces}
 use Rattle.layout.specs.Number.{all, is_number, number_of}
-use Rattle.layout.specs.Line.{Line, Form, formless, numbers, numbers_of, form_after, form, Outcome, fault, found, judged_line, outcome, line_at, and_then, before}
+use Rattle.layout.specs.Line.{Line, Form, formless, numbers, numbers_of, form_after, form, Outcome, fault, found, judged_line, outcome, line_at}
+use Rattle.layout.specs.Line.{and_then, before}
 use Rattle.layout.specs.Reading.{lines_at}
 use Rattle.layout.proofs.Tests.{both}
 

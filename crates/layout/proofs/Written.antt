@@ -40,7 +40,8 @@ join-pieces : (text : List ℕ) → join (pieces text) ≡ text
 join-pieces [] = refl
 join-pieces (b ∷ text) = go (eqb b 44) refl (pieces_some text) (join-pieces text)
   where
-    go : (t : Bool) → eqb b 44 ≡ t → ((p : List ℕ) × (ps : List (List ℕ)) × (pieces text ≡ p ∷ ps)) → join (pieces text) ≡ text → join (pieces (b ∷ text)) ≡ b ∷ text
+    go : (t : Bool) → eqb b 44 ≡ t → ((p : List ℕ) × (ps : List (List ℕ)) × (pieces text ≡ p ∷ ps)) → join (pieces text) ≡ text
+        → join (pieces (b ∷ text)) ≡ b ∷ text
     go true e s ih =
         let z = eqb-true b 44 e in
         rw e
@@ -226,7 +227,8 @@ all_take_drop test k ns h =
     both (all test (take k ns)) (all test (drop k ns))
     (sym (all_append test (take k ns) (drop k ns)) ∙ (ap (all test) (take-append-drop k ns) ∙ h))
 
-pub written_lines : (m at : ℕ) (line : Line) (cs rest : List ℕ) → all is_letter line.word ≡ true → 1 ≤ line.count → length cs ≡ m * line.count → Fit line.most cs
+pub written_lines : (m at : ℕ) (line : Line) (cs rest : List ℕ) → all is_letter line.word ≡ true → 1 ≤ line.count → length cs ≡ m * line.count
+    → Fit line.most cs
     → all line.allowed cs ≡ true → lines_at at m line (lines_of m line cs ++ rest) ≡ found cs rest
 unfolding lines_at
 written_lines zero at line [] rest w k c f a = refl

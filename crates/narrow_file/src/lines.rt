@@ -59,7 +59,8 @@ fn one_number(bytes: &[u8], at: usize, word: Word, line: u32, low: u64, high: u6
 // The `end` line, and nothing after it.
 fn from_end(bytes: &[u8], at: usize, vars: u32, degree: u32, claim: u32, rounds: usize) -> Judged
     requires { vars ≤ max_vars }
-    ensures { said_judged bytes.now result ≡ from_end narrow vars degree claim (take (vars * (degree + 1)) (collect 0 (drop rounds bytes.now))) (drop at bytes.now) }
+    ensures { said_judged bytes.now result
+        ≡ from_end narrow vars degree claim (take (vars * (degree + 1)) (collect 0 (drop rounds bytes.now))) (drop at bytes.now) }
 {
     let end = vars + 6;
     let after = vars + 7;

@@ -70,7 +70,8 @@ pub sum-add : {A : Type 0} (n : ℕ) (g h : A → ℕ) (xs : List A)
 sum-add n g h [] = sym (zero-add-mod n 0 ∙ zero-mod n)
 sum-add n g h (x ∷ xs) =
     ap (add n (add n (g x) (h x))) (sum-add n g h xs)
-    ∙ same n (at (g x) ⊕ at (h x) ⊕ (at (sum n (map g xs)) ⊕ at (sum n (map h xs)))) (at (g x) ⊕ at (sum n (map g xs)) ⊕ (at (h x) ⊕ at (sum n (map h xs)))) 0 0 (omega arith)
+    ∙ same n (at (g x) ⊕ at (h x) ⊕ (at (sum n (map g xs)) ⊕ at (sum n (map h xs))))
+    (at (g x) ⊕ at (sum n (map g xs)) ⊕ (at (h x) ⊕ at (sum n (map h xs)))) 0 0 (omega arith)
 
 -- the sum of multiples
 pub sum-mul : {A : Type 0} (n a : ℕ) (g : A → ℕ) (xs : List A) → sum n (map (λ (x : A). mul n a (g x)) xs) ≡ mul n a (sum n (map g xs))

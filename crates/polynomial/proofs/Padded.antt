@@ -19,7 +19,8 @@ line_times_zeros n a d (suc z) =
     ap₂ {B = List ℕ} (λ (x : ℕ) (xs : List ℕ). x ∷ xs) (same n (at a ⊗ at 0 ⊕ at d ⊗ at 0) (at 0) 0 0 (omega arith) ∙ zero-mod n) (line_times_zeros n a d z)
 
 -- with a zero on top nothing is cut off
-line_times-plus : (n a d before z : ℕ) (cs : List ℕ) → line_times n a d before (cs ++ replicate (suc z) 0) ≡ plus n (scale n a cs) (mul n d before ∷ scale n d cs) ++ replicate z 0
+line_times-plus : (n a d before z : ℕ) (cs : List ℕ)
+    → line_times n a d before (cs ++ replicate (suc z) 0) ≡ plus n (scale n a cs) (mul n d before ∷ scale n d cs) ++ replicate z 0
 line_times-plus n a d before z [] =
     ap₂ {B = List ℕ} (λ (x : ℕ) (xs : List ℕ). x ∷ xs) (same n (at a ⊗ at 0 ⊕ at d ⊗ at before) (at d ⊗ at before) 0 0 (omega arith)) (line_times_zeros n a d z)
 line_times-plus n a d before z (c ∷ cs) = ap (λ (xs : List ℕ). add n (mul n a c) (mul n d before) ∷ xs) (line_times-plus n a d c z cs)

@@ -75,7 +75,8 @@ first_first ((number when true) ∷ rules) more h = refl
 first_first ((number when false) ∷ rules) more h = first_first rules more h
 
 -- one refusal for either of two tests is that refusal for the one and then for the other
-pub decide-either : {A : Type 0} (number : ℕ) (a b : Bool) (rules : List Rule) (x : A) → decide ((number when either a b) ∷ rules) x ≡ decide ((number when a) ∷ (number when b) ∷ rules) x
+pub decide-either : {A : Type 0} (number : ℕ) (a b : Bool) (rules : List Rule) (x : A)
+    → decide ((number when either a b) ∷ rules) x ≡ decide ((number when a) ∷ (number when b) ∷ rules) x
 decide-either number true b rules x = refl
 decide-either number false b rules x = refl
 
@@ -88,6 +89,7 @@ pub outside-append : (n : ℕ) (xs ys : List ℕ) → outside n (xs ++ ys) ≡ e
 outside-append n [] ys = refl
 outside-append n (x ∷ xs) ys = go (leb n x) (outside-append n xs ys)
   where
-    go : (b : Bool) → outside n (xs ++ ys) ≡ either (outside n xs) (outside n ys) → either b (outside n (xs ++ ys)) ≡ either (either b (outside n xs)) (outside n ys)
+    go : (b : Bool) → outside n (xs ++ ys) ≡ either (outside n xs) (outside n ys)
+        → either b (outside n (xs ++ ys)) ≡ either (either b (outside n xs)) (outside n ys)
     go true e = refl
     go false e = e

@@ -8,7 +8,8 @@ use native.Mathlib.Omega.{arith}
 use lib.Dec.{eqb}
 use borrow.Author.Tests.{eq-eqb, ne_eqb, eqb-true, eqb-false}
 use Rattle.refusals.specs.First.{Rule, ◌when◌, Answer, refused, given, choose, either, outside, first, decide}
-use Rattle.refusals.proofs.First.{choose-true, choose-false, unnumbered, either_left, either-right, either-none, Numbers, first_rest, first_first, outside-append}
+use Rattle.refusals.proofs.First.{choose-true, choose-false, unnumbered, either_left, either-right, either-none, Numbers, first_rest, first_first}
+use Rattle.refusals.proofs.First.{outside-append}
 
 -- no refusal has the number 0, by a test that computes
 abbrev pub named : List Rule → Bool
@@ -45,7 +46,8 @@ first_passed xs ys h e z = sym (first_rest xs ys (named-numbers xs h) (sym e ∙
 pub refused_by : {A : Type 0} (rules : List Rule) → named rules ≡ true → (a : A) {k : ℕ} → k ≡ first rules → (k ≡ 0 → ⊥) → refused k ≡ decide rules a
 refused_by {A} rules h a {k} e z =
     ap refused e
-    ∙ sym (decide_number rules (named-numbers rules h) a ∙ choose-false (given a) (refused (first rules)) (ne_eqb (first rules) 0 (λ (w : first rules ≡ 0). z (e ∙ w))))
+    ∙ sym (decide_number rules (named-numbers rules h) a
+    ∙ choose-false (given a) (refused (first rules)) (ne_eqb (first rules) 0 (λ (w : first rules ≡ 0). z (e ∙ w))))
 
 pub given_by : {A : Type 0} (rules : List Rule) → named rules ≡ true → (a : A) {k : ℕ} → k ≡ first rules → k ≡ 0 → given a ≡ decide rules a
 given_by {A} rules h a {k} e z =

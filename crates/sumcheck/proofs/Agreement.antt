@@ -66,7 +66,8 @@ module _ (n vars degree : ℕ) (v : bad_vars vars ≡ false) (d : bad_degree deg
   formed [] taken c e l u = refl
   formed (i ∷ inputs) taken c e l u =
       sym (ap (λ (b : Back Judged). end_of n b.state inputs) (step_given n s i.message i.challenge (step_taken taken c i e (omega arith) u.0) refl))
-      ∙ go (fits n i.message c) (formed inputs (suc taken) (value n i.message i.challenge) (value-below n (omega arith) i.message i.challenge) (omega arith) u.1)
+      ∙ go (fits n i.message c) (formed inputs (suc taken) (value n i.message i.challenge) (value-below n (omega arith) i.message i.challenge)
+      (omega arith) u.1)
     where
       s : State
       s = state_at vars degree taken c false
@@ -120,14 +121,17 @@ module _ (n vars degree claim : ℕ) (challenges messages : List ℕ) (z : first
   course_taken =
       let u = untested (rounds_rules n vars degree claim challenges messages) refl refl z in
       formed n vars degree u.0 u.1.0 inputs 0 claim lent.claimed (omega (arith, inputs_length challenges ms counted, lent.rounds))
-      (inputs_formed n degree challenges ms lent.points (parts_lengths vars (suc degree) messages (omega (arith, lent.long))) (parts-elements n vars (suc degree) messages lent.numbers))
+      (inputs_formed n degree challenges ms lent.points (parts_lengths vars (suc degree) messages (omega (arith, lent.long)))
+      (parts-elements n vars (suc degree) messages lent.numbers))
 
   ends : Ended n vars degree claim challenges ms (end_of n (fresh vars degree claim) inputs) (answers n (fresh vars degree claim) inputs)
   ends =
       subst (λ (s : State). Ended n vars degree claim challenges ms s (answers n (fresh vars degree claim) inputs)) (sym course_taken)
-      (subst (λ (xs : List (List ℕ)). Ended n vars degree claim challenges xs (follow n (fresh vars degree claim) inputs) (answers n (fresh vars degree claim) inputs))
+      (subst (λ (xs : List (List ℕ)). Ended n vars degree claim challenges xs (follow n (fresh vars degree claim) inputs)
+      (answers n (fresh vars degree claim) inputs))
       (inputs_messages challenges ms counted)
-      (subst (λ (rs : List ℕ). Ended n vars degree claim rs (messages_in inputs) (follow n (fresh vars degree claim) inputs) (answers n (fresh vars degree claim) inputs))
+      (subst (λ (rs : List ℕ). Ended n vars degree claim rs (messages_in inputs) (follow n (fresh vars degree claim) inputs)
+      (answers n (fresh vars degree claim) inputs))
       (inputs_challenges challenges ms counted) (ended n vars degree claim inputs)))
 
 -- a running claim is an element
@@ -146,7 +150,8 @@ closes n vars degree taken c mark v b d h l k o =
     refl
 
 -- a sequence that went through, or stopped, can be closed
-closing-ended : (n vars degree claim : ℕ) (rs : List ℕ) (ms : List (List ℕ)) (s : State) (told : List Judged) (v : ℕ) → bad_vars vars ≡ false → bad_degree degree ≡ false
+closing-ended : (n vars degree claim : ℕ) (rs : List ℕ) (ms : List (List ℕ)) (s : State) (told : List Judged) (v : ℕ) → bad_vars vars ≡ false
+    → bad_degree degree ≡ false
     → length rs ≡ vars → claim < n → v < n → Ended n vars degree claim rs ms s told → given (closed s v) ≡ (closing n s v).outcome
 closing-ended n vars degree claim rs ms s told v b d r h l (through c w o e a) =
     subst (λ (x : State). given (closed x v) ≡ (closing n x v).outcome) (sym e)
@@ -191,6 +196,7 @@ unfolding RoundsAgree
 rounds_agree n vars degree claim challenges messages z =
     let xs = messages_of vars degree messages in
     ap given
-    (rounds-ended n vars degree claim challenges xs (end_of n (fresh vars degree claim) (inputs_of challenges xs)) (answers n (fresh vars degree claim) (inputs_of challenges xs))
+    (rounds-ended n vars degree claim challenges xs (end_of n (fresh vars degree claim) (inputs_of challenges xs))
+    (answers n (fresh vars degree claim) (inputs_of challenges xs))
     (ends n vars degree claim challenges messages z))
     ∙ given_by (rounds_rules n vars degree claim challenges messages) refl (rounds n claim challenges xs) refl z

@@ -11,7 +11,8 @@ use lib.ListN.{length}
 use borrow.Author.Tests.{eqb-true, eqb-false, ltb-false, eq-eqb, ne_eqb}
 use Rattle.refusals.specs.Limits.{max_vars, max_degree}
 use Rattle.refusals.specs.First.{Rule, ◌when◌, Answer, refused, given, choose, either, outside, first, decide}
-use Rattle.refusals.proofs.First.{decide_first, decide_rest, decide-either, turned, passed, numbered, unnumbered, outside-append, Numbers, first_first, first_rest, first_either, choose-true, choose-false}
+use Rattle.refusals.proofs.First.{decide_first, decide_rest, decide-either, turned, passed, numbered, unnumbered, outside-append, Numbers}
+use Rattle.refusals.proofs.First.{first_first, first_rest, first_either, choose-true, choose-false}
 use Rattle.sumcheck.specs.Function.{f, true_sum}
 use Rattle.sumcheck.specs.Lent.{tables_length, tables_of, bad_vars, bad_degree, not_long}
 use Rattle.sumcheck.specs.Entries.{lengths_refusal, value_or_zero, value_answer, sum_answer}
@@ -43,7 +44,8 @@ shape vars degree h = go (bad_vars vars) (eqb degree 0) (ltb max_degree degree) 
     go true b c ea eb ec h = absurd (omega arith)
     go false true c ea eb ec h = absurd (omega arith)
     go false false true ea eb ec h = absurd (omega arith)
-    go false false false ea eb ec h = record { few = ltb-false max_vars vars ea; some = omega (arith, eqb-false degree 0 eb); least = ltb-false max_degree degree ec }
+    go false false false ea eb ec h =
+        record { few = ltb-false max_vars vars ea; some = omega (arith, eqb-false degree 0 eb); least = ltb-false max_degree degree ec }
 
 -- the size that an entry works out is 2^vars
 pub size_right : (vars s : ℕ) → vars ≤ max_vars → s ≡ 2 ^ min vars max_vars → s ≡ 2 ^ vars
@@ -79,7 +81,8 @@ tables_shaped vars degree long h = go (bad_vars vars) (bad_degree degree) h
 pub tables_right : (vars degree long : ℕ) → first (tables_rules vars degree long) ≡ 0 → long ≡ degree * 2 ^ vars
 tables_right vars degree long h =
     go (eqb long (tables_length vars degree)) refl
-    (sym (first_rest (shape_rules vars degree) (3 when not (eqb long (tables_length vars degree)) ∷ []) (shape-numbers vars degree) (tables_shaped vars degree long h)) ∙ h)
+    (sym (first_rest (shape_rules vars degree) (3 when not (eqb long (tables_length vars degree)) ∷ []) (shape-numbers vars degree)
+    (tables_shaped vars degree long h)) ∙ h)
   where
     go : (b : Bool) → eqb long (tables_length vars degree) ≡ b → first (3 when not b ∷ []) ≡ 0 → long ≡ degree * 2 ^ vars
     go true e h = eqb-true long (tables_length vars degree) e
@@ -101,7 +104,8 @@ abbrev pub value_rest : ℕ → ℕ → List ℕ → List ℕ → List Rule
 value_rest n vars tables point = 3 when not_long vars point ∷ 5 when outside n tables ∷ 5 when outside n point ∷ []
 
 pub value_rules_lem : (n vars degree : ℕ) (tables point : List ℕ)
-    → decide (tables_rules vars degree (length tables) ++ value_rest n vars tables point) (f n (tables_of vars degree tables) point) ≡ value_answer n vars degree tables point
+    → decide (tables_rules vars degree (length tables) ++ value_rest n vars tables point)
+    (f n (tables_of vars degree tables) point) ≡ value_answer n vars degree tables point
 value_rules_lem n vars degree tables point =
     ap (λ (r : Answer ℕ). choose (bad_vars vars) (refused 1) (choose (bad_degree degree) (refused 2) r))
     (sym (decide-either 3 a b (5 when outside n tables ∷ 5 when outside n point ∷ []) v)
@@ -121,7 +125,8 @@ value_rules_lem n vars degree tables point =
 pub lengths_rules : (vars degree : ℕ) (tables point : List ℕ)
     → first (tables_rules vars degree (length tables) ++ 3 when not_long vars point ∷ []) ≡ lengths_refusal vars degree tables point
 lengths_rules vars degree tables point =
-    ap (λ (r : ℕ). choose (bad_vars vars) 1 (choose (bad_degree degree) 2 r)) (sym (first_either 3 (not_long (tables_length vars degree) tables) (not_long vars point) []))
+    ap (λ (r : ℕ). choose (bad_vars vars) 1 (choose (bad_degree degree) 2 r))
+    (sym (first_either 3 (not_long (tables_length vars degree) tables) (not_long vars point) []))
 
 -- f where the lengths are right, and 0 where they are not
 pub f-refused : (n vars degree : ℕ) (tables point : List ℕ) → (lengths_refusal vars degree tables point ≡ 0 → ⊥) → 0 ≡ value_or_zero n vars degree tables point
@@ -144,7 +149,8 @@ module _ (n vars degree : ℕ) (tables point : List ℕ) where
 
   module _ (z : first head ≡ 0) where
     beyond : decide (value_rest n vars tables point) value ≡ value_answer n vars degree tables point
-    beyond = sym (decide_rest head (value_rest n vars tables point) value (tables_numbers vars degree (length tables)) z) ∙ value_rules_lem n vars degree tables point
+    beyond = sym (decide_rest head (value_rest n vars tables point) value (tables_numbers vars degree (length tables)) z)
+        ∙ value_rules_lem n vars degree tables point
 
     pub value_long : (length point ≡ vars → ⊥) → refused 3 ≡ value_answer n vars degree tables point
     value_long h = turned 3 (5 when outside n tables ∷ 5 when outside n point ∷ []) value (ap not (ne_eqb (length point) vars h)) ∙ beyond
@@ -159,7 +165,8 @@ module _ (n vars degree : ℕ) (tables point : List ℕ) where
       pub value_point : outside n tables ≡ false → outside n point ≡ true → refused 5 ≡ value_answer n vars degree tables point
       value_point g h = turned 5 [] value h ∙ (passed 5 (5 when outside n point ∷ []) value g ∙ later)
 
-      pub value-given : outside n tables ≡ false → outside n point ≡ false → given (f n (tables_of vars degree tables) point) ≡ value_answer n vars degree tables point
+      pub value-given : outside n tables ≡ false → outside n point ≡ false
+          → given (f n (tables_of vars degree tables) point) ≡ value_answer n vars degree tables point
       value-given g h = passed 5 [] value h ∙ (passed 5 (5 when outside n point ∷ []) value g ∙ later)
 
   -- and the lengths alone
@@ -167,12 +174,18 @@ module _ (n vars degree : ℕ) (tables point : List ℕ) where
   lengths_tables h e = h (sym (first_first head (3 when not_long vars point ∷ []) h) ∙ (lengths_rules vars degree tables point ∙ e))
 
   pub lengths_long : first head ≡ 0 → (length point ≡ vars → ⊥) → lengths_refusal vars degree tables point ≡ 0 → ⊥
-  lengths_long z h e = omega (arith, sym (first_rest head (3 when not_long vars point ∷ []) (tables_numbers vars degree (length tables)) z) ∙ (lengths_rules vars degree tables point ∙ e), numbered 3 [] (ap not (ne_eqb (length point) vars h)))
+  lengths_long z h e = omega (
+    arith,
+    sym (first_rest head (3 when not_long vars point ∷ []) (tables_numbers vars degree (length tables)) z)
+        ∙ (lengths_rules vars degree tables point ∙ e),
+    numbered 3 [] (ap not (ne_eqb (length point) vars h)),
+  )
 
   pub lengths_none : first head ≡ 0 → length point ≡ vars → lengths_refusal vars degree tables point ≡ 0
   lengths_none z l =
       sym (lengths_rules vars degree tables point)
-      ∙ (first_rest head (3 when not_long vars point ∷ []) (tables_numbers vars degree (length tables)) z ∙ sym (unnumbered 3 [] (ap not (eq-eqb (length point) vars l))))
+      ∙ (first_rest head (3 when not_long vars point ∷ []) (tables_numbers vars degree (length tables)) z
+      ∙ sym (unnumbered 3 [] (ap not (eq-eqb (length point) vars l))))
 
 -- the ways through the true sum
 module _ (n vars degree : ℕ) (tables : List ℕ) where

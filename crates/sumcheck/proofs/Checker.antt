@@ -18,7 +18,8 @@ use Rattle.sumcheck.specs.Protocol.{reached, failed, rounds, Verdict, accepted, 
 use Rattle.sumcheck.specs.Lent.{tables_of, messages_of}
 use Rattle.sumcheck.specs.Entries.{checker_rules, checker_answer}
 use Rattle.sumcheck.specs.Demands.{WellFormed, Sound, NoVariables}
-use Rattle.sumcheck.specs.Checker.{claim_after, SumAgrees, SumsAgree, Fails, at_sum, at_final, AcceptsExactly, RejectsFirst, RefusesFirst, AnswerSound, AnswerCertain}
+use Rattle.sumcheck.specs.Checker.{claim_after, SumAgrees, SumsAgree, Fails, at_sum, at_final, AcceptsExactly, RejectsFirst, RefusesFirst}
+use Rattle.sumcheck.specs.Checker.{AnswerSound, AnswerCertain}
 use Rattle.sumcheck.proofs.Soundness.{sound, no_variables}
 use Rattle.sumcheck.proofs.Entries.{RoundsLent, checker_lent}
 use Rattle.sumcheck.proofs.Course.{Course, fair, foul, course, fair-reached, foul-failed}

@@ -78,7 +78,13 @@ pub corners_some : (m : ℕ) → 0 < length (corners m)
 unfolding corners
 corners_some zero = omega arith
 corners_some (suc m) =
-    omega (arith, corners_some m, length-append (map (λ (b : List ℕ). 0 ∷ b) (corners m)) (map (λ (b : List ℕ). 1 ∷ b) (corners m)), length-map (corners m) (λ (b : List ℕ). 0 ∷ b))
+    omega (
+      arith,
+      corners_some m,
+      length-append (map (λ (b : List ℕ). 0 ∷ b) (corners m)) (map (λ (b : List ℕ). 1 ∷ b) (corners m)),
+      length-map
+          (corners m) (λ (b : List ℕ). 0 ∷ b),
+    )
 
 pub count_length : (i c : ℕ) → length (count_from i c) ≡ c
 unfolding count_from
@@ -89,7 +95,8 @@ count_length i (suc c) = ap suc (count_length (suc i) c)
 pub count_every : (P : ℕ → Type 0) (i c : ℕ) → ((x : ℕ) → i ≤ x → x < i + c → P x) → Every P (count_from i c)
 unfolding count_from
 count_every P i zero h = tt
-count_every P i (suc c) h = (h i (omega arith) (omega arith), count_every P (suc i) c (λ (x : ℕ) (l : suc i ≤ x) (u : x < suc i + c). h x (omega arith) (omega arith)))
+count_every P i (suc c) h =
+    (h i (omega arith) (omega arith), count_every P (suc i) c (λ (x : ℕ) (l : suc i ≤ x) (u : x < suc i + c). h x (omega arith) (omega arith)))
 
 pub count_distinct : (i c : ℕ) → Distinct (count_from i c)
 unfolding count_from

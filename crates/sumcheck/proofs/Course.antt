@@ -36,7 +36,8 @@ pub sums_front : (n c r : ℕ) (rs s : List ℕ) (ms : List (List ℕ)) (count :
 sums_front n c r rs s ms count h u zero l = h
 sums_front n c r rs s ms count h u (suc j) l = agrees_front n c r rs s ms j (u j (omega arith))
 
-pub sums_later : (n c r : ℕ) (rs s : List ℕ) (ms : List (List ℕ)) (count : ℕ) → SumsAgree n c (r ∷ rs) (s ∷ ms) (suc count) → SumsAgree n (value n s r) rs ms count
+pub sums_later : (n c r : ℕ) (rs s : List ℕ) (ms : List (List ℕ)) (count : ℕ) → SumsAgree n c (r ∷ rs) (s ∷ ms) (suc count)
+    → SumsAgree n (value n s r) rs ms count
 sums_later n c r rs s ms count u j l = agrees_later n c r rs s ms j (u (suc j) (omega arith))
 
 -- the course is one of the two

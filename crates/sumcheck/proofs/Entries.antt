@@ -39,7 +39,8 @@ rounds-lent n vars degree claim challenges messages e z =
       few = degree-within degree u.1.0;
       some = degree_some degree u.1.0;
       rounds = is_long vars challenges (neither_left (not_long vars challenges) (not_long (messages_length vars degree) messages) u.1.1.0);
-      long = is_long (messages_length vars degree) messages (neither_right (not_long vars challenges) (not_long (messages_length vars degree) messages) u.1.1.0);
+      long = is_long (messages_length vars degree) messages
+          (neither_right (not_long vars challenges) (not_long (messages_length vars degree) messages) u.1.1.0);
       claimed = (is_inside n (claim ∷ []) (neither_left (outside n (claim ∷ [])) (outside n (challenges ++ messages)) split)).0;
       points = is_inside n challenges (neither_left (outside n challenges) (outside n messages) lists);
       numbers = is_inside n messages (neither_right (outside n challenges) (outside n messages) lists);
@@ -52,7 +53,8 @@ module _ (n vars degree : ℕ) (tables : List ℕ) (claim : ℕ) (challenges mes
 
   lengths : either (not_long vars challenges) (not_long (messages_length vars degree) messages) ≡ false
   lengths =
-      neither_right (not_long (tables_length vars degree) tables) (either (not_long vars challenges) (not_long (messages_length vars degree) messages)) unmet.1.1.0
+      neither_right (not_long (tables_length vars degree) tables)
+      (either (not_long vars challenges) (not_long (messages_length vars degree) messages)) unmet.1.1.0
 
   split : either (outside n tables) (outside n (claim ∷ challenges ++ messages)) ≡ false
   split = sym (outside-append n tables (claim ∷ challenges ++ messages)) ∙ unmet.1.1.1.0
@@ -68,7 +70,8 @@ module _ (n vars degree : ℕ) (tables : List ℕ) (claim : ℕ) (challenges mes
 -- what the checker with tables refuses once the tables' lengths are right
 abbrev pub checker_rest : ℕ → ℕ → ℕ → List ℕ → ℕ → List ℕ → List ℕ → List Rule
 checker_rest n vars degree tables claim challenges messages =
-    3 when either (not_long vars challenges) (not_long (messages_length vars degree) messages) ∷ 5 when outside n (tables ++ (claim ∷ challenges ++ messages)) ∷ []
+    3 when either (not_long vars challenges) (not_long (messages_length vars degree) messages) ∷ 5 when outside n
+    (tables ++ (claim ∷ challenges ++ messages)) ∷ []
 
 module _ (n vars degree : ℕ) (tables : List ℕ) (claim : ℕ) (challenges messages : List ℕ) where
   -- its refusals, the tables' lengths first
@@ -80,7 +83,8 @@ module _ (n vars degree : ℕ) (tables : List ℕ) (claim : ℕ) (challenges mes
       (first_either 3 (not_long (tables_length vars degree) tables) (either (not_long vars challenges) (not_long (messages_length vars degree) messages))
       (5 when outside n (tables ++ (claim ∷ challenges ++ messages)) ∷ [])))
 
-  pub checker_turned : {k : ℕ} → k ≡ first (tables_rules vars degree (length tables)) → (k ≡ 0 → ⊥) → k ≡ first (checker_rules n vars degree tables claim challenges messages)
+  pub checker_turned : {k : ℕ} → k ≡ first (tables_rules vars degree (length tables)) → (k ≡ 0 → ⊥)
+      → k ≡ first (checker_rules n vars degree tables claim challenges messages)
   checker_turned e z = first_turned (tables_rules vars degree (length tables)) (checker_rest n vars degree tables claim challenges messages) e z ∙ parted
 
   pub checker_passed : {k : ℕ} → k ≡ first (tables_rules vars degree (length tables)) → k ≡ 0
@@ -95,7 +99,8 @@ module _ (n vars degree : ℕ) (tables : List ℕ) (claim : ℕ) (challenges mes
       refused_by (checker_rules n vars degree tables claim challenges messages) refl
       (verdict n (tables_of vars degree tables) claim challenges (messages_of vars degree messages)) e z
 
-  pub check-given : k ≡ 0 → {width : ℕ} → width ≡ suc degree → (o : Rounds) → given o ≡ given (rounds n claim challenges (parts (length challenges) width messages))
+  pub check-given : k ≡ 0 → {width : ℕ} → width ≡ suc degree → (o : Rounds)
+      → given o ≡ given (rounds n claim challenges (parts (length challenges) width messages))
       → {v : ℕ} → v ≡ f n (tables_of vars degree tables) challenges → given (final vars v o) ≡ checker_answer n vars degree tables claim challenges messages
   check-given z {width} w o g {v} h =
       let lent : RoundsLent n vars degree claim challenges messages = checker_lent n vars degree tables claim challenges messages e z in
@@ -111,7 +116,8 @@ module _ (n vars degree : ℕ) (tables : List ℕ) (claim : ℕ) (challenges mes
   check-value z =
       let u : Untested (checker_rules n vars degree tables claim challenges messages) = unmet n vars degree tables claim challenges messages e z in
       let three = u.1.1.0 in
-      let rest : either (not_long vars challenges) (not_long (messages_length vars degree) messages) ≡ false = lengths n vars degree tables claim challenges messages e z in
+      let rest : either (not_long vars challenges) (not_long (messages_length vars degree) messages) ≡ false =
+      lengths n vars degree tables claim challenges messages e z in
       sym
       (f-given n vars degree tables challenges
       (sym
@@ -121,7 +127,8 @@ module _ (n vars degree : ℕ) (tables : List ℕ) (claim : ℕ) (challenges mes
         (
           u.1.0,
           (
-            either-none (neither_left (not_long (tables_length vars degree) tables) (either (not_long vars challenges) (not_long (messages_length vars degree) messages)) three)
+            either-none (neither_left (not_long (tables_length vars degree) tables)
+                (either (not_long vars challenges) (not_long (messages_length vars degree) messages)) three)
                 (neither_left (not_long vars challenges) (not_long (messages_length vars degree) messages) rest),
             tt,
           ),

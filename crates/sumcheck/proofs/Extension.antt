@@ -72,8 +72,10 @@ pub extension-between : (m x : ℕ) (t r b : List ℕ)
     → extension (suc m) t (r ++ x ∷ b) ≡ between (suc m) x (extension (suc m) t (r ++ 0 ∷ b)) (extension (suc m) t (r ++ 1 ∷ b))
 extension-between m x t r b =
     at_length x
-    ∙ (sum-between m x (λ (c : List ℕ). get_or t (index c) 0) (weight (suc m) (r ++ x ∷ b)) (weight (suc m) (r ++ 0 ∷ b)) (weight (suc m) (r ++ 1 ∷ b)) (corners k)
-    (every (λ (c : List ℕ). weight (suc m) (r ++ x ∷ b) c ≡ between (suc m) x (weight (suc m) (r ++ 0 ∷ b) c) (weight (suc m) (r ++ 1 ∷ b) c)) (weight-between m x r b) (corners k))
+    ∙ (sum-between m x (λ (c : List ℕ). get_or t (index c) 0) (weight (suc m) (r ++ x ∷ b)) (weight (suc m) (r ++ 0 ∷ b)) (weight (suc m) (r ++ 1 ∷ b))
+    (corners k)
+    (every (λ (c : List ℕ). weight (suc m) (r ++ x ∷ b) c ≡ between (suc m) x (weight (suc m) (r ++ 0 ∷ b) c) (weight (suc m) (r ++ 1 ∷ b) c))
+    (weight-between m x r b) (corners k))
     ∙ ap₂ (between (suc m) x) (sym (at_length 0)) (sym (at_length 1)))
   where
     k : ℕ

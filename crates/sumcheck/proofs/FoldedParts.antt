@@ -28,9 +28,12 @@ folded_part-length n r half places u h e = omega (arith, length-append (fold n r
 front-folded : (n r half : ℕ) (u : List ℕ) → take half (folded_part n r half u) ≡ fold n r half (take (half + half) u)
 front-folded n r half u =
     take_at (fold n r half u) (drop half u) half (fold-length n r half u)
-    ∙ map_same (λ (i : ℕ). between n r (get_or u i 0) (get_or u (half + i) 0)) (λ (i : ℕ). between n r (get_or (take (half + half) u) i 0) (get_or (take (half + half) u) (half + i) 0)) (count_from 0 half)
-    (count_every (λ (i : ℕ). between n r (get_or u i 0) (get_or u (half + i) 0) ≡ between n r (get_or (take (half + half) u) i 0) (get_or (take (half + half) u) (half + i) 0)) 0 half
-    (λ (i : ℕ) (l : 0 ≤ i) (h : i < 0 + half). ap₂ (between n r) (sym (get_or-take (half + half) u i 0 (omega arith))) (sym (get_or-take (half + half) u (half + i) 0 (omega arith)))))
+    ∙ map_same (λ (i : ℕ). between n r (get_or u i 0) (get_or u (half + i) 0))
+    (λ (i : ℕ). between n r (get_or (take (half + half) u) i 0) (get_or (take (half + half) u) (half + i) 0)) (count_from 0 half)
+    (count_every (λ (i : ℕ). between n r (get_or u i 0) (get_or u (half + i) 0) ≡ between n r (get_or (take (half + half) u) i 0)
+    (get_or (take (half + half) u) (half + i) 0)) 0 half
+    (λ (i : ℕ) (l : 0 ≤ i) (h : i < 0 + half). ap₂ (between n r) (sym (get_or-take (half + half) u i 0 (omega arith)))
+    (sym (get_or-take (half + half) u (half + i) 0 (omega arith)))))
 
 -- the fronts of parts
 abbrev pub fronts : ℕ → List (List ℕ) → List (List ℕ)
@@ -48,12 +51,14 @@ fronts_more n r rest rs us ts e =
     ∙ (ap (map (fold n r (2 ^ rest))) e
     ∙ (map_twice (fold n r (2 ^ rest)) (λ (t : List ℕ). folded n t rs (suc rest)) ts
     ∙ map_same (λ (t : List ℕ). fold n r (2 ^ rest) (folded n t rs (suc rest))) (λ (t : List ℕ). folded n t (rs ++ r ∷ []) rest) ts
-    (every (λ (t : List ℕ). fold n r (2 ^ rest) (folded n t rs (suc rest)) ≡ folded n t (rs ++ r ∷ []) rest) (λ (t : List ℕ). sym (folded_more n rs t r rest)) ts)))))
+    (every (λ (t : List ℕ). fold n r (2 ^ rest) (folded n t rs (suc rest)) ≡ folded n t (rs ++ r ∷ []) rest)
+    (λ (t : List ℕ). sym (folded_more n rs t r rest)) ts)))))
 
 -- a round goes by the fronts alone
 line-front : (n half i : ℕ) (u : List ℕ) → i < half → line_at n half i u ≡ line_at n half i (take (half + half) u)
 line-front n half i u h =
-    ap₂ (λ (a d : ℕ). a ∷ Rattle.arithmetic.specs.Modulo.sub n d a ∷ []) (sym (get_or-take (half + half) u i 0 (omega arith))) (sym (get_or-take (half + half) u (half + i) 0 (omega arith)))
+    ap₂ (λ (a d : ℕ). a ∷ Rattle.arithmetic.specs.Modulo.sub n d a ∷ []) (sym (get_or-take (half + half) u i 0 (omega arith)))
+    (sym (get_or-take (half + half) u (half + i) 0 (omega arith)))
 
 pub round-fronts : (n half : ℕ) (us : List (List ℕ)) → round_of n half us ≡ round_of n half (fronts (half + half) us)
 round-fronts n half us =

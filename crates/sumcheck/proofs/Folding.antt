@@ -53,7 +53,8 @@ share n t r b = mul n (get_or t (index b) 0) (weight n r b)
 meet : (m r : ℕ) (t rs c : List ℕ) → Corner (length rs) c
     → add (suc m) (share (suc m) t (r ∷ rs) (0 ∷ c)) (share (suc m) t (r ∷ rs) (1 ∷ c)) ≡ share (suc m) (fold (suc m) r (2 ^ length rs) t) rs c
 meet m r t rs c k =
-    ap₂ (λ (i j : ℕ). add (suc m) (mul (suc m) (get_or t i 0) (mul (suc m) (factor (suc m) r 0) (weight (suc m) rs c))) (mul (suc m) (get_or t j 0) (mul (suc m) (factor (suc m) r 1) (weight (suc m) rs c)))) low high
+    ap₂ (λ (i j : ℕ). add (suc m) (mul (suc m) (get_or t i 0) (mul (suc m) (factor (suc m) r 0) (weight (suc m) rs c)))
+    (mul (suc m) (get_or t j 0) (mul (suc m) (factor (suc m) r 1) (weight (suc m) rs c)))) low high
     ∙ (halves m r (get_or t (index c) 0) (get_or t (2 ^ length rs + index c) 0) (weight (suc m) rs c)
     ∙ ap (λ (v : ℕ). mul (suc m) v (weight (suc m) rs c)) (sym (fold_at (suc m) r (2 ^ length rs) t (index c) below)))
   where
@@ -71,12 +72,19 @@ pub extension-fold : (n : ℕ) → 0 < n → (r : ℕ) (t rs : List ℕ) → ext
 unfolding corners
 extension-fold zero h r t rs = absurd (omega arith)
 extension-fold (suc m) h r t rs =
-    ap (sum (suc m)) (map-append (share (suc m) t (r ∷ rs)) (map (λ (b : List ℕ). 0 ∷ b) (corners (length rs))) (map (λ (b : List ℕ). 1 ∷ b) (corners (length rs))))
-    ∙ (sum-append (suc m) (map (share (suc m) t (r ∷ rs)) (map (λ (b : List ℕ). 0 ∷ b) (corners (length rs)))) (map (share (suc m) t (r ∷ rs)) (map (λ (b : List ℕ). 1 ∷ b) (corners (length rs))))
-    ∙ (ap₂ (λ (xs ys : List ℕ). add (suc m) (sum (suc m) xs) (sum (suc m) ys)) (map_twice (share (suc m) t (r ∷ rs)) (λ (b : List ℕ). 0 ∷ b) (corners (length rs))) (map_twice (share (suc m) t (r ∷ rs)) (λ (b : List ℕ). 1 ∷ b) (corners (length rs)))
+    ap (sum (suc m)) (map-append (share (suc m) t (r ∷ rs)) (map (λ (b : List ℕ). 0 ∷ b) (corners (length rs)))
+    (map (λ (b : List ℕ). 1 ∷ b) (corners (length rs))))
+    ∙ (sum-append (suc m) (map (share (suc m) t (r ∷ rs)) (map (λ (b : List ℕ). 0 ∷ b) (corners (length rs))))
+    (map (share (suc m) t (r ∷ rs)) (map (λ (b : List ℕ). 1 ∷ b) (corners (length rs))))
+    ∙ (ap₂ (λ (xs ys : List ℕ). add (suc m) (sum (suc m) xs) (sum (suc m) ys))
+    (map_twice (share (suc m) t (r ∷ rs)) (λ (b : List ℕ). 0 ∷ b) (corners (length rs)))
+    (map_twice (share (suc m) t (r ∷ rs)) (λ (b : List ℕ). 1 ∷ b) (corners (length rs)))
     ∙ (sym (sum-add (suc m) (λ (c : List ℕ). share (suc m) t (r ∷ rs) (0 ∷ c)) (λ (c : List ℕ). share (suc m) t (r ∷ rs) (1 ∷ c)) (corners (length rs)))
-    ∙ ap (sum (suc m)) (map_same (λ (c : List ℕ). add (suc m) (share (suc m) t (r ∷ rs) (0 ∷ c)) (share (suc m) t (r ∷ rs) (1 ∷ c))) (share (suc m) (fold (suc m) r (2 ^ length rs) t) rs) (corners (length rs))
-    (every_map (Corner (length rs)) (λ (c : List ℕ). add (suc m) (share (suc m) t (r ∷ rs) (0 ∷ c)) (share (suc m) t (r ∷ rs) (1 ∷ c)) ≡ share (suc m) (fold (suc m) r (2 ^ length rs) t) rs c)
+    ∙ ap (sum (suc m)) (map_same (λ (c : List ℕ). add (suc m) (share (suc m) t (r ∷ rs) (0 ∷ c)) (share (suc m) t (r ∷ rs) (1 ∷ c)))
+    (share (suc m) (fold (suc m) r (2 ^ length rs) t) rs) (corners (length rs))
+    (every_map (Corner (length rs))
+    (λ (c : List ℕ). add (suc m) (share (suc m) t (r ∷ rs) (0 ∷ c)) (share (suc m) t (r ∷ rs) (1 ∷ c)) ≡ share (suc m)
+    (fold (suc m) r (2 ^ length rs) t) rs c)
     (meet m r t rs) (corners (length rs)) (corner_all (length rs)))))))
 
 pub between_low : (m a b : ℕ) → between (suc m) 0 a b % suc m ≡ a % suc m
@@ -101,5 +109,6 @@ extension_corner (suc m) h t (suc zero ∷ b) u =
     extension-fold (suc m) h 1 t b
     ∙ (extension_corner (suc m) h (fold (suc m) 1 (2 ^ length b) t) b u.1
     ∙ (ap (λ (v : ℕ). v % suc m) (fold_at (suc m) 1 (2 ^ length b) t (index b) (index_below b u.1))
-    ∙ (between_high m (get_or t (index b) 0) (get_or t (2 ^ length b + index b) 0) ∙ ap (λ (i : ℕ). get_or t i 0 % suc m) (high_index (2 ^ length b) (index b)))))
+    ∙ (between_high m (get_or t (index b) 0) (get_or t (2 ^ length b + index b) 0)
+    ∙ ap (λ (i : ℕ). get_or t i 0 % suc m) (high_index (2 ^ length b) (index b)))))
 extension_corner (suc m) h t (suc (suc x) ∷ b) u = absurd (omega (arith, u.0))

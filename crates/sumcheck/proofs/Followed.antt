@@ -33,7 +33,8 @@ abbrev pub state_at : ℕ → ℕ → ℕ → ℕ → Bool → State
 state_at vars degree taken claim mark = record { vars = vars; degree = degree; taken = taken; claim = claim; mark = mark }
 
 -- a sum that agrees fits, and one that does not fails
-fitting : (n : ℕ) (i : Input) (inputs : List Input) (c : ℕ) → SumAgrees n c (challenges_of (i ∷ inputs)) (messages_in (i ∷ inputs)) 0 → fits n i.message c ≡ true
+fitting : (n : ℕ) (i : Input) (inputs : List Input) (c : ℕ) → SumAgrees n c (challenges_of (i ∷ inputs)) (messages_in (i ∷ inputs)) 0
+    → fits n i.message c ≡ true
 fitting n i inputs c h = eq-eqb (add n (value n i.message 0) (value n i.message 1)) c h
 
 module _ (n vars degree : ℕ) where
@@ -45,7 +46,8 @@ module _ (n vars degree : ℕ) where
   follow-fair (i ∷ inputs) taken c u =
       choose-true (follow n (state_at vars degree (suc taken) w false) inputs) (state_at vars degree taken c true) (fitting n i inputs c (u 0 (omega arith)))
       ∙ (follow-fair inputs (suc taken) w (sums_later n c i.challenge (challenges_of inputs) i.message (messages_in inputs) (length inputs) u)
-      ∙ ap₂ {B = ℕ} (λ (t x : ℕ). state_at vars degree t x false) next (sym (later n c i.challenge (challenges_of inputs) i.message (messages_in inputs) (length inputs))))
+      ∙ ap₂ {B = ℕ} (λ (t x : ℕ). state_at vars degree t x false) next
+      (sym (later n c i.challenge (challenges_of inputs) i.message (messages_in inputs) (length inputs))))
     where
       w : ℕ
       w = value n i.message i.challenge
@@ -76,7 +78,8 @@ module _ (n vars degree : ℕ) where
   follow-foul (i ∷ inputs) taken c (suc j) l u x =
       choose-true (follow n (state_at vars degree (suc taken) w false) inputs) (state_at vars degree taken c true) (fitting n i inputs c (u 0 (omega arith)))
       ∙ (follow-foul inputs (suc taken) w j (omega arith) (sums_later n c i.challenge (challenges_of inputs) i.message (messages_in inputs) j u)
-      (λ (h : SumAgrees n w (challenges_of inputs) (messages_in inputs) j). x (agrees_front n c i.challenge (challenges_of inputs) i.message (messages_in inputs) j h))
+      (λ (h : SumAgrees n w (challenges_of inputs) (messages_in inputs) j). x
+      (agrees_front n c i.challenge (challenges_of inputs) i.message (messages_in inputs) j h))
       ∙ ap₂ {B = ℕ} (λ (t y : ℕ). state_at vars degree t y true) next (sym (later n c i.challenge (challenges_of inputs) i.message (messages_in inputs) j)))
     where
       w : ℕ
@@ -97,7 +100,8 @@ module _ (n vars degree : ℕ) where
       choose-true (fitted ∷ answers n (state_at vars degree (suc taken) w false) inputs) (rejects (suc taken) ∷ []) (fitting n i inputs c (u 0 (omega arith)))
       ∙ ap (λ (l : List Judged). fitted ∷ l)
       (answers-foul inputs (suc taken) w j (omega arith) (sums_later n c i.challenge (challenges_of inputs) i.message (messages_in inputs) j u)
-      (λ (h : SumAgrees n w (challenges_of inputs) (messages_in inputs) j). x (agrees_front n c i.challenge (challenges_of inputs) i.message (messages_in inputs) j h))
+      (λ (h : SumAgrees n w (challenges_of inputs) (messages_in inputs) j). x
+      (agrees_front n c i.challenge (challenges_of inputs) i.message (messages_in inputs) j h))
       ∙ ap (λ (t : ℕ). replicate j fitted ++ rejects (suc t) ∷ []) next)
     where
       w : ℕ
@@ -114,21 +118,25 @@ pub data Ended (n vars degree claim : ℕ) (rs : List ℕ) (ms : List (List ℕ)
       → told ≡ replicate j fitted ++ rejects (suc j) ∷ [] → Ended n vars degree claim rs ms s told
 
 pub ended : (n vars degree claim : ℕ) (inputs : List Input)
-    → Ended n vars degree claim (challenges_of inputs) (messages_in inputs) (follow n (fresh vars degree claim) inputs) (answers n (fresh vars degree claim) inputs)
+    → Ended n vars degree claim (challenges_of inputs) (messages_in inputs) (follow n (fresh vars degree claim) inputs)
+    (answers n (fresh vars degree claim) inputs)
 ended n vars degree claim inputs = go (course n claim (challenges_of inputs) (messages_in inputs) (length-map inputs (λ (i : Input). i.message) ∙ sym many))
   where
     many : length (challenges_of inputs) ≡ length inputs
     many = length-map inputs (λ (i : Input). i.challenge)
 
     go : Course n claim (challenges_of inputs) (messages_in inputs)
-        → Ended n vars degree claim (challenges_of inputs) (messages_in inputs) (follow n (fresh vars degree claim) inputs) (answers n (fresh vars degree claim) inputs)
+        → Ended n vars degree claim (challenges_of inputs) (messages_in inputs) (follow n (fresh vars degree claim) inputs)
+        (answers n (fresh vars degree claim) inputs)
     go (fair u) =
         let same : length (messages_in inputs) ≡ length (challenges_of inputs) = length-map inputs (λ (i : Input). i.message) ∙ sym many in
-        let all : SumsAgree n claim (challenges_of inputs) (messages_in inputs) (length inputs) = subst (SumsAgree n claim (challenges_of inputs) (messages_in inputs)) many u in
+        let all : SumsAgree n claim (challenges_of inputs) (messages_in inputs) (length inputs) =
+        subst (SumsAgree n claim (challenges_of inputs) (messages_in inputs)) many u in
         through (claim_after n claim (challenges_of inputs) (messages_in inputs) (length (challenges_of inputs))) refl
         (fair-reached n 1 claim (challenges_of inputs) (messages_in inputs) same u)
         (follow-fair n vars degree inputs 0 claim all
-        ∙ ap₂ {B = ℕ} (λ (t x : ℕ). state_at vars degree t x false) (zero-add (length inputs) ∙ sym many) (ap (claim_after n claim (challenges_of inputs) (messages_in inputs)) (sym many)))
+        ∙ ap₂ {B = ℕ} (λ (t x : ℕ). state_at vars degree t x false) (zero-add (length inputs) ∙ sym many)
+        (ap (claim_after n claim (challenges_of inputs) (messages_in inputs)) (sym many)))
         (answers-fair n vars degree inputs 0 claim all ∙ ap (λ (t : ℕ). replicate t fitted) (sym many))
     go (foul j l u x) =
         let same : length (messages_in inputs) ≡ length (challenges_of inputs) = length-map inputs (λ (i : Input). i.message) ∙ sym many in
@@ -137,5 +145,6 @@ ended n vars degree claim inputs = go (course n claim (challenges_of inputs) (me
         let one : 1 + j ≡ suc j = omega arith in
         stopped j l
         (foul-failed n 1 claim (challenges_of inputs) (messages_in inputs) same j l u x ∙ ap failed one)
-        (follow-foul n vars degree inputs 0 claim j within u x ∙ ap (λ (t : ℕ). state_at vars degree t (claim_after n claim (challenges_of inputs) (messages_in inputs) j) true) none)
+        (follow-foul n vars degree inputs 0 claim j within u x
+        ∙ ap (λ (t : ℕ). state_at vars degree t (claim_after n claim (challenges_of inputs) (messages_in inputs) j) true) none)
         (answers-foul n vars degree inputs 0 claim j within u x ∙ ap (λ (t : ℕ). replicate j fitted ++ rejects (suc t) ∷ []) none)

@@ -24,7 +24,8 @@ pub extension_same : (n : ℕ) (t u r : List ℕ) → ((i : ℕ) → i < 2 ^ len
 extension_same n t u r h =
     ap (sum n)
     (map_same (λ (b : List ℕ). mul n (get_or t (index b) 0) (weight n r b)) (λ (b : List ℕ). mul n (get_or u (index b) 0) (weight n r b)) (corners (length r))
-    (every_map (Corner (length r)) (λ (b : List ℕ). mul n (get_or t (index b) 0) (weight n r b) ≡ mul n (get_or u (index b) 0) (weight n r b)) here (corners (length r)) (corner_all (length r))))
+    (every_map (Corner (length r)) (λ (b : List ℕ). mul n (get_or t (index b) 0) (weight n r b) ≡ mul n (get_or u (index b) 0) (weight n r b)) here
+    (corners (length r)) (corner_all (length r))))
   where
     here : (b : List ℕ) → Corner (length r) b → mul n (get_or t (index b) 0) (weight n r b) ≡ mul n (get_or u (index b) 0) (weight n r b)
     here b c =
@@ -70,7 +71,8 @@ pub sum_columns : (n : ℕ) → 0 < n → (ts : List (List ℕ)) (m : ℕ) → t
 sum_columns n h ts m =
     ap (sum n)
     (map_same (f n ts) (λ (b : List ℕ). column n ts (index b)) (corners m)
-    (every_map (Corner m) (λ (b : List ℕ). f n ts b ≡ column n ts (index b)) (λ (b : List ℕ) (c : Corner m b). f_corner n h ts b c.bits) (corners m) (corner_all m))
+    (every_map (Corner m) (λ (b : List ℕ). f n ts b ≡ column n ts (index b)) (λ (b : List ℕ) (c : Corner m b). f_corner n h ts b c.bits) (corners m)
+    (corner_all m))
     ∙ (sym (map_twice (column n ts) index (corners m)) ∙ ap (map (column n ts)) (corners_count m)))
 
 -- at the point of no variables: the table's one value
@@ -101,19 +103,32 @@ module _ (t point : List ℕ) (e : length t ≡ 2 ^ length point) (some : length
 
   pub high_length : length (take (length t - length t / 2) (drop (length t / 2) t)) ≡ 2 ^ length rest
   high_length =
-      omega (arith, length-take (length t - length t / 2) (drop (length t / 2) t), length-drop (length t / 2) t, half_length, e, ap (λ (l : ℕ). 2 ^ l) (sym rest_length ∙ add-one (length rest)), two-pow-succ (length rest))
+      omega (
+        arith,
+        length-take (length t - length t / 2) (drop (length t / 2) t),
+        length-drop (length t / 2) t,
+        half_length,
+        e,
+        ap (λ (l : ℕ). 2 ^ l)
+            (sym rest_length ∙ add-one (length rest)),
+        two-pow-succ (length rest),
+      )
 
   -- the extension is the point between those of the halves
   pub by_halves : (n : ℕ) → 0 < n
-      → between n (get_or point 0 0) (extension n (take (length t / 2 - 0) t) rest) (extension n (take (length t - length t / 2) (drop (length t / 2) t)) rest) ≡ extension n t point
+      → between n (get_or point 0 0) (extension n (take (length t / 2 - 0) t) rest)
+      (extension n (take (length t - length t / 2) (drop (length t / 2) t)) rest) ≡ extension n t point
   by_halves n h = go point e some
     where
       go : (q : List ℕ) → length t ≡ 2 ^ length q → (length q ≡ 0 → ⊥)
-          → between n (get_or q 0 0) (extension n (take (length t / 2 - 0) t) (take (length q - 1) (drop 1 q))) (extension n (take (length t - length t / 2) (drop (length t / 2) t)) (take (length q - 1) (drop 1 q))) ≡ extension n t q
+          → between n (get_or q 0 0) (extension n (take (length t / 2 - 0) t) (take (length q - 1) (drop 1 q)))
+          (extension n (take (length t - length t / 2) (drop (length t / 2) t)) (take (length q - 1) (drop 1 q))) ≡ extension n t q
       go [] l s = absurd (s refl)
       go (x ∷ r) l s =
-          ap₂ (λ (u v : List ℕ). between n x (extension n u (take (length (x ∷ r) - 1) (drop 1 (x ∷ r)))) (extension n v (take (length (x ∷ r) - 1) (drop 1 (x ∷ r))))) low high
-          ∙ (ap (λ (q : List ℕ). between n x (extension n (take (2 ^ length r) t) q) (extension n (drop (2 ^ length r) t) q)) (rest_cons r x) ∙ sym (extension-halves n h x t r))
+          ap₂ (λ (u v : List ℕ). between n x (extension n u (take (length (x ∷ r) - 1) (drop 1 (x ∷ r))))
+          (extension n v (take (length (x ∷ r) - 1) (drop 1 (x ∷ r))))) low high
+          ∙ (ap (λ (q : List ℕ). between n x (extension n (take (2 ^ length r) t) q) (extension n (drop (2 ^ length r) t) q)) (rest_cons r x)
+          ∙ sym (extension-halves n h x t r))
         where
           half : length t / 2 ≡ 2 ^ length r
           half = omega (arith, l, two-pow-succ (length r))

@@ -83,7 +83,8 @@ parts_more c l xs = ap (λ (k : ℕ). parts k l xs) (add-one c) ∙ go c xs
 -- every part of a list changed in its place, one after the other: g keeps a part's length
 module _ (g : List ℕ → List ℕ) (l : ℕ) (keeps : (u : List ℕ) → length u ≡ l → length (g u) ≡ l) (xs : List ℕ) where
   changed_lengths : (c : ℕ) → c * l ≤ length xs → Every (λ (p : List ℕ). length p ≡ l) (map g (parts c l xs))
-  changed_lengths c h = every_of_map (λ (p : List ℕ). length p ≡ l) g (parts c l xs) (every_map (λ (p : List ℕ). length p ≡ l) (λ (p : List ℕ). length (g p) ≡ l) keeps (parts c l xs) (parts_lengths c l xs h))
+  changed_lengths c h = every_of_map (λ (p : List ℕ). length p ≡ l) g (parts c l xs)
+      (every_map (λ (p : List ℕ). length p ≡ l) (λ (p : List ℕ). length (g p) ≡ l) keeps (parts c l xs) (parts_lengths c l xs h))
 
   changed_count : (c : ℕ) → length (map g (parts c l xs)) ≡ c
   changed_count c = length-map (parts c l xs) g ∙ parts_count c l xs
@@ -109,10 +110,13 @@ module _ (g : List ℕ → List ℕ) (l : ℕ) (keeps : (u : List ℕ) → lengt
   pub changed_more : (c start : ℕ) (ys : List ℕ) → (c + 1) * l ≤ length xs → start ≡ c * l → ys ≡ changed c
       → take start ys ++ (g (take (start + l - start) (drop start ys)) ++ drop (start + l - start) (drop start ys)) ≡ changed (c + 1)
   changed_more c start ys h e w =
-      ap₂ (λ (s : ℕ) (zs : List ℕ). take s zs ++ (g (take (s + l - s) (drop s zs)) ++ drop (s + l - s) (drop s zs))) (e ∙ ap (λ (k : ℕ). k * l) (sym (changed_count c))) w
+      ap₂ (λ (s : ℕ) (zs : List ℕ). take s zs ++ (g (take (s + l - s) (drop s zs)) ++ drop (s + l - s) (drop s zs)))
+      (e ∙ ap (λ (k : ℕ). k * l) (sym (changed_count c))) w
       ∙ (ap (λ (k : ℕ). take at (changed c) ++ (g (take k (drop at (changed c))) ++ drop k (drop at (changed c)))) (add-sub_cancel_left at l)
       ∙ (laid_more l (map g (parts c l xs)) xs (changed_lengths c (omega arith)) (g (take l (drop at (changed c))))
-      ∙ ap (λ (ps : List (List ℕ)). laid l ps xs) (ap (λ (u : List ℕ). map g (parts c l xs) ++ g (take l u) ∷ []) here ∙ (sym (map-append g (parts c l xs) (take l (drop (c * l) xs) ∷ [])) ∙ ap (map g) (sym (parts_more c l xs))))))
+      ∙ ap (λ (ps : List (List ℕ)). laid l ps xs)
+      (ap (λ (u : List ℕ). map g (parts c l xs) ++ g (take l u) ∷ []) here
+      ∙ (sym (map-append g (parts c l xs) (take l (drop (c * l) xs) ∷ [])) ∙ ap (map g) (sym (parts_more c l xs))))))
     where
       at : ℕ
       at = length (map g (parts c l xs)) * l

@@ -80,7 +80,8 @@ only s l e same =
     ∙ four
 
 -- the values at 0 and 1 of a list that is a true polynomial
-adds : (r : List ℕ) (rest : ℕ) (q : List ℕ) → true_polynomial 11 (t ∷ []) r rest ≡ q → add 11 (value 11 q 0) (value 11 q 1) ≡ true_claim 11 (t ∷ []) r (suc rest)
+adds : (r : List ℕ) (rest : ℕ) (q : List ℕ) → true_polynomial 11 (t ∷ []) r rest ≡ q
+    → add 11 (value 11 q 0) (value 11 q 1) ≡ true_claim 11 (t ∷ []) r (suc rest)
 unfolding AddsUp
 adds r rest q e = ap (λ (s : List ℕ). add 11 (value 11 s 0) (value 11 s 1)) (sym e) ∙ adds_up 11 (omega arith) (t ∷ []) r rest
 

@@ -14,7 +14,8 @@ use Rattle.sumcheck.proofs.TruePolynomial.{polynomial_length, polynomial_element
 pub parts-elements : (n count size : ℕ) (xs : List ℕ) → Elements n xs → Every (Elements n) (parts count size xs)
 unfolding parts
 parts-elements n zero size xs u = tt
-parts-elements n (suc count) size xs u = (every_take (λ (x : ℕ). x < n) size xs u, parts-elements n count size (drop size xs) (every_drop (λ (x : ℕ). x < n) size xs u))
+parts-elements n (suc count) size xs u =
+    (every_take (λ (x : ℕ). x < n) size xs u, parts-elements n count size (drop size xs) (every_drop (λ (x : ℕ). x < n) size xs u))
 
 pub join-elements : (n : ℕ) (ms : List (List ℕ)) → Every (Elements n) ms → Elements n (join ms)
 join-elements n [] u = tt
@@ -25,7 +26,8 @@ pub polynomials_count : (n : ℕ) (ts : List (List ℕ)) (cs r : List ℕ) → l
 polynomials_count n ts [] r = refl
 polynomials_count n ts (c ∷ cs) r = ap suc (polynomials_count n ts cs (r ++ c ∷ []))
 
-pub polynomials_lengths : (n l : ℕ) (ts : List (List ℕ)) → suc (length ts) ≡ l → (cs r : List ℕ) → Every (λ (q : List ℕ). length q ≡ l) (polynomials_after n ts r cs)
+pub polynomials_lengths : (n l : ℕ) (ts : List (List ℕ)) → suc (length ts) ≡ l → (cs r : List ℕ)
+    → Every (λ (q : List ℕ). length q ≡ l) (polynomials_after n ts r cs)
 polynomials_lengths n l ts e [] r = tt
 polynomials_lengths n l ts e (c ∷ cs) r = (polynomial_length n ts r (length cs) ∙ e, polynomials_lengths n l ts e cs (r ++ c ∷ []))
 

@@ -33,10 +33,12 @@ parts_at (suc count) size xs (suc j) h =
 module _ (vars degree : ℕ) (messages : List ℕ) (round : ℕ) {k : ℕ} (e : k ≡ part_refusal vars degree messages round) where
   -- where refused, the empty part at the list's start
   pub part_none : (k ≡ 0 → ⊥) → 0 ≡ part_start vars degree messages round
-  part_none z = sym (choose-false ((round - 1) * suc degree) 0 (ne_eqb (part_refusal vars degree messages round) 0 (λ (w : part_refusal vars degree messages round ≡ 0). z (e ∙ w))))
+  part_none z = sym (choose-false ((round - 1) * suc degree) 0
+      (ne_eqb (part_refusal vars degree messages round) 0 (λ (w : part_refusal vars degree messages round ≡ 0). z (e ∙ w))))
 
   pub part_short : (k ≡ 0 → ⊥) → 0 ≡ part_length vars degree messages round
-  part_short z = sym (choose-false (suc degree) 0 (ne_eqb (part_refusal vars degree messages round) 0 (λ (w : part_refusal vars degree messages round ≡ 0). z (e ∙ w))))
+  part_short z =
+      sym (choose-false (suc degree) 0 (ne_eqb (part_refusal vars degree messages round) 0 (λ (w : part_refusal vars degree messages round ≡ 0). z (e ∙ w))))
 
   -- else the part lies inside the list
   pub part_some : k ≡ 0 → 0 < round
@@ -70,13 +72,21 @@ module _ (vars degree : ℕ) (messages : List ℕ) (round : ℕ) {k : ℕ} (e : 
       ∙ ap₂ {B = ℕ} (λ (l i : ℕ). take l (drop i messages)) (part_long z) (part_start_lem z))
 
 -- refused or not, the part lies inside the list
-pub part_within : (vars degree : ℕ) (messages : List ℕ) (round : ℕ) → part_start vars degree messages round + part_length vars degree messages round ≤ length messages
+pub part_within : (vars degree : ℕ) (messages : List ℕ) (round : ℕ)
+    → part_start vars degree messages round + part_length vars degree messages round ≤ length messages
 part_within vars degree messages round = go (eqb (part_refusal vars degree messages round) 0) refl
   where
-    go : (t : Bool) → eqb (part_refusal vars degree messages round) 0 ≡ t → part_start vars degree messages round + part_length vars degree messages round ≤ length messages
+    go : (t : Bool) → eqb (part_refusal vars degree messages round) 0 ≡ t
+        → part_start vars degree messages round + part_length vars degree messages round ≤ length messages
     go true t =
         let z : part_refusal vars degree messages round ≡ 0 = eqb-true (part_refusal vars degree messages round) 0 t in
-        omega (arith, part_inside vars degree messages round refl z, part_start_lem vars degree messages round refl z, part_long vars degree messages round refl z)
+        omega (
+          arith,
+          part_inside vars degree messages round refl z,
+          part_start_lem vars degree messages round refl z,
+          part_long vars degree messages
+              round refl z,
+        )
     go false t =
         let z : part_refusal vars degree messages round ≡ 0 → ⊥ = eqb-false (part_refusal vars degree messages round) 0 t in
         omega (arith, part_none vars degree messages round refl z, part_short vars degree messages round refl z)

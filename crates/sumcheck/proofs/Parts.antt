@@ -31,7 +31,8 @@ pub product-step : (n : ℕ) (g : List ℕ → ℕ) (places done left start : �
 unfolding parts
 product-step n g places done zero start xs h = absurd (h refl)
 product-step n g places done (suc left) start xs h =
-    ap₂ (λ (l : ℕ) (ys : List ℕ). mul n (mul n done (g (take places (drop start xs)))) (product n (map g (parts l places ys)))) (suc-sub-suc left 0 ∙ sub-zero left) (sym (drop-drop places start xs))
+    ap₂ (λ (l : ℕ) (ys : List ℕ). mul n (mul n done (g (take places (drop start xs)))) (product n (map g (parts l places ys))))
+    (suc-sub-suc left 0 ∙ sub-zero left) (sym (drop-drop places start xs))
     ∙ same n (at done ⊗ at (g (take places (drop start xs))) ⊗ at rest) (at done ⊗ (at (g (take places (drop start xs))) ⊗ at rest)) 0 0 (omega arith)
   where
     rest : ℕ

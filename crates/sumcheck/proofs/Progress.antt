@@ -33,7 +33,8 @@ pub record Progress (n count places : ℕ) (tables challenges messages₀ scratc
   pub size_is : size ≡ 2 ^ (length challenges - j)
   pub start_is : start ≡ j * (count + 1)
   pub written : messages ≡ laid (count + 1) (take j (true_polynomials n (parts count places tables) challenges)) messages₀
-  pub folded_so : fronts size (parts count places scratch) ≡ map (λ (t : List ℕ). folded n t (take j challenges) (length challenges - j)) (parts count places tables)
+  pub folded_so : fronts size (parts count places scratch) ≡ map (λ (t : List ℕ). folded n t (take j challenges) (length challenges - j))
+      (parts count places tables)
   pub behind : drop (count * places) scratch ≡ drop (count * places) scratch₀
   pub long : length scratch ≡ length scratch₀
 
@@ -68,15 +69,24 @@ module _ (n count places : ℕ) (tables challenges messages₀ scratch₀ : List
         folded_so =
             ap (λ (xs : List ℕ). fronts places (parts count places xs)) e
             ∙ (ap (fronts places) (parts-front count places tables (drop (length tables) scratch₀) (omega (arith, s.tables_are)))
-            ∙ (fronts-whole places (parts count places tables) (parts_lengths count places tables (omega (arith, s.tables_are))) ∙ same_map (parts count places tables)));
+            ∙ (fronts-whole places (parts count places tables) (parts_lengths count places tables (omega (arith, s.tables_are)))
+            ∙ same_map (parts count places tables)));
         behind =
             ap (drop (count * places)) e
             ∙ (drop_at tables (drop (length tables) scratch₀) (count * places) s.tables_are ∙ ap (λ (i : ℕ). drop i scratch₀) s.tables_are);
-        long = ap length e ∙ omega (arith, length-append tables (drop (length tables) scratch₀), length-drop (length tables) scratch₀, s.tables_are, s.scratch_room);
+        long = ap length e ∙ omega (
+          arith,
+          length-append tables (drop (length tables) scratch₀),
+          length-drop
+              (length tables) scratch₀,
+          s.tables_are,
+          s.scratch_room,
+        );
       }
 
   -- a round's lengths: before it size is twice half, and half is 2 to the number of variables behind it
-  module _ (messages scratch : List ℕ) (size start j : ℕ) (w : Progress n count places tables challenges messages₀ scratch₀ messages scratch size start j) (l : j < length challenges) where
+  module _ (messages scratch : List ℕ) (size start j : ℕ)
+      (w : Progress n count places tables challenges messages₀ scratch₀ messages scratch size start j) (l : j < length challenges) where
     abbrev ts : List (List ℕ)
     ts = parts count places tables
 
@@ -96,7 +106,14 @@ module _ (n count places : ℕ) (tables challenges messages₀ scratch₀ : List
     double = omega (arith, half_is, w.size_is, ap (λ (k : ℕ). 2 ^ k) left, two-pow-succ rest)
 
     pub double_places : size / 2 + size / 2 ≤ places
-    double_places = omega (arith, double, w.size_is, s.places_are, pow-le-pow_right {n = 2} (omega arith) {i = length challenges - j} {j = length challenges} (sub-le (length challenges) j))
+    double_places = omega (
+      arith,
+      double,
+      w.size_is,
+      s.places_are,
+      pow-le-pow_right {n = 2}
+          (omega arith) {i = length challenges - j} {j = length challenges} (sub-le (length challenges) j),
+    )
 
     pub half_some : 0 < size / 2
     half_some = omega (arith, half_is, one-le-pow rest 2 (omega arith))
@@ -130,21 +147,31 @@ module _ (n count places : ℕ) (tables challenges messages₀ scratch₀ : List
 
     -- the place for it is there
     pub place-room : start + (count + 1) ≤ length messages
-    place-room = omega (arith, w.start_is, more_room, ap length w.written, laid-length (count + 1) done messages₀ done_long (omega (arith, done_start, w.start_is, more_room)))
+    place-room = omega (
+      arith,
+      w.start_is,
+      more_room,
+      ap length w.written,
+      laid-length (count + 1) done messages₀ done_long
+          (omega (arith, done_start, w.start_is, more_room)),
+    )
 
     -- one polynomial more is written behind the others
-    written_so : take start messages ++ ((round_of n (size / 2) (parts count places scratch) ++ drop (count + 1) (take (length messages - start) (drop start messages))) ++ drop (length messages - start) (drop start messages))
+    written_so : take start messages ++ ((round_of n (size / 2) (parts count places scratch) ++ drop (count + 1)
+        (take (length messages - start) (drop start messages))) ++ drop (length messages - start) (drop start messages))
         ≡ laid (count + 1) (take (j + 1) (true_polynomials n ts challenges)) messages₀
     written_so =
         ap₂ (λ (r e : List ℕ). take start messages ++ ((round_of n (size / 2) (parts count places scratch) ++ drop (count + 1) r) ++ e))
         (take_all (length messages - start) (drop start messages) (omega (arith, length-drop start messages)))
         (drop_of_length-le (drop start messages) {i = length messages - start} (omega (arith, length-drop start messages)))
-        ∙ (ap (λ (e : List ℕ). take start messages ++ e) (append-nil (round_of n (size / 2) (parts count places scratch) ++ drop (count + 1) (drop start messages)))
+        ∙ (ap (λ (e : List ℕ). take start messages ++ e)
+        (append-nil (round_of n (size / 2) (parts count places scratch) ++ drop (count + 1) (drop start messages)))
         ∙ (ap₂ (λ (i : ℕ) (xs : List ℕ). take i xs ++ (round_of n (size / 2) (parts count places scratch) ++ drop (count + 1) (drop i xs))) done_start w.written
         ∙ (laid_more (count + 1) done messages₀ done_long (round_of n (size / 2) (parts count places scratch))
         ∙ ap (λ (ps : List (List ℕ)). laid (count + 1) ps messages₀)
         (ap (λ (q : List ℕ). done ++ q ∷ []) round-true
-        ∙ (sym (take-suc (true_polynomials n ts challenges) j [] (omega (arith, polynomials_count n ts challenges []))) ∙ ap (λ (k : ℕ). take k (true_polynomials n ts challenges)) (sym (add-one j)))))))
+        ∙ (sym (take-suc (true_polynomials n ts challenges) j [] (omega (arith, polynomials_count n ts challenges [])))
+        ∙ ap (λ (k : ℕ). take k (true_polynomials n ts challenges)) (sym (add-one j)))))))
 
     keeps : (u : List ℕ) → length u ≡ places → length (folded_part n (get_or challenges j 0) (size / 2) u) ≡ places
     keeps u e = folded_part-length n (get_or challenges j 0) (size / 2) places u (omega (arith, double_places)) e
@@ -154,7 +181,8 @@ module _ (n count places : ℕ) (tables challenges messages₀ scratch₀ : List
 
     -- after it
     pub progress_turn : (messages' scratch' : List ℕ)
-        → messages' ≡ take start messages ++ ((round_of n (size / 2) (parts count places scratch) ++ drop (count + 1) (take (length messages - start) (drop start messages))) ++ drop (length messages - start) (drop start messages))
+        → messages' ≡ take start messages ++ ((round_of n (size / 2) (parts count places scratch) ++ drop (count + 1)
+        (take (length messages - start) (drop start messages))) ++ drop (length messages - start) (drop start messages))
         → scratch' ≡ laid places (map (folded_part n (get_or challenges j 0) (size / 2)) (parts count places scratch)) scratch
         → Progress n count places tables challenges messages₀ scratch₀ messages' scratch' (size / 2) (start + (count + 1)) (j + 1)
     progress_turn messages' scratch' em es =
@@ -165,17 +193,23 @@ module _ (n count places : ℕ) (tables challenges messages₀ scratch₀ : List
           written = em ∙ written_so;
           folded_so =
               ap₂ (λ (h : ℕ) (xs : List ℕ). fronts h (parts count places xs)) half_is es
-              ∙ (ap (fronts (2 ^ rest)) (changed_parts (folded_part n (get_or challenges j 0) (size / 2)) places keeps scratch count scratch_long ∙ ap (λ (h : ℕ). map (folded_part n (get_or challenges j 0) h) (parts count places scratch)) half_is)
+              ∙ (ap (fronts (2 ^ rest)) (changed_parts (folded_part n (get_or challenges j 0) (size / 2)) places keeps scratch count scratch_long
+              ∙ ap (λ (h : ℕ). map (folded_part n (get_or challenges j 0) h) (parts count places scratch)) half_is)
               ∙ (fronts_more n (get_or challenges j 0) rest (take j challenges) (parts count places scratch) ts
-              (ap (λ (k : ℕ). fronts k (parts count places scratch)) (ap (λ (k : ℕ). 2 ^ k) (sym left) ∙ sym w.size_is) ∙ (w.folded_so ∙ ap (λ (k : ℕ). map (λ (t : List ℕ). folded n t (take j challenges) k) ts) left))
-              ∙ ap₂ (λ (rs : List ℕ) (k : ℕ). map (λ (t : List ℕ). folded n t rs k) ts) (sym (take-suc challenges j 0 l) ∙ ap (λ (k : ℕ). take k challenges) (sym (add-one j))) (ap (λ (i : ℕ). length challenges - i) (sym (add-one j)))));
-          behind = ap (drop (count * places)) es ∙ (changed_rest (folded_part n (get_or challenges j 0) (size / 2)) places keeps scratch count scratch_long ∙ w.behind);
+              (ap (λ (k : ℕ). fronts k (parts count places scratch)) (ap (λ (k : ℕ). 2 ^ k) (sym left) ∙ sym w.size_is)
+              ∙ (w.folded_so ∙ ap (λ (k : ℕ). map (λ (t : List ℕ). folded n t (take j challenges) k) ts) left))
+              ∙ ap₂ (λ (rs : List ℕ) (k : ℕ). map (λ (t : List ℕ). folded n t rs k) ts)
+              (sym (take-suc challenges j 0 l) ∙ ap (λ (k : ℕ). take k challenges) (sym (add-one j)))
+              (ap (λ (i : ℕ). length challenges - i) (sym (add-one j)))));
+          behind = ap (drop (count * places)) es
+              ∙ (changed_rest (folded_part n (get_or challenges j 0) (size / 2)) places keeps scratch count scratch_long ∙ w.behind);
           long = ap length es ∙ (changed_length (folded_part n (get_or challenges j 0) (size / 2)) places keeps scratch count scratch_long ∙ w.long);
         }
 
   -- a list that begins with the tables does so again
   pub copied : (scratch : List ℕ) → scratch ≡ tables ++ drop (length tables) scratch₀ → scratch ≡ tables ++ drop (length tables) scratch
-  copied scratch e = e ∙ ap (λ (r : List ℕ). tables ++ r) (sym (ap (drop (length tables)) e ∙ drop_at tables (drop (length tables) scratch₀) (length tables) refl))
+  copied scratch e =
+      e ∙ ap (λ (r : List ℕ). tables ++ r) (sym (ap (drop (length tables)) e ∙ drop_at tables (drop (length tables) scratch₀) (length tables) refl))
 
   pub copied_setting : (scratch : List ℕ) → scratch ≡ tables ++ drop (length tables) scratch₀ → Setting n count places tables challenges messages₀ scratch
   copied_setting scratch e =
@@ -188,15 +222,20 @@ module _ (n count places : ℕ) (tables challenges messages₀ scratch₀ : List
       }
 
   -- after the last round
-  pub progress_end : (messages scratch : List ℕ) (size start j : ℕ) → Progress n count places tables challenges messages₀ scratch₀ messages scratch size start j → length challenges ≤ j
+  pub progress_end : (messages scratch : List ℕ) (size start j : ℕ)
+      → Progress n count places tables challenges messages₀ scratch₀ messages scratch size start j → length challenges ≤ j
       → messages ≡ join (true_polynomials n (parts count places tables) challenges) ++ drop (length challenges * (count + 1)) messages₀
   progress_end messages scratch size start j w h =
       w.written
-      ∙ (ap (λ (ps : List (List ℕ)). laid (count + 1) ps messages₀) (take_all j (true_polynomials n (parts count places tables) challenges) (omega (arith, polynomials_count n (parts count places tables) challenges [])))
-      ∙ ap (λ (k : ℕ). join (true_polynomials n (parts count places tables) challenges) ++ drop (k * (count + 1)) messages₀) (polynomials_count n (parts count places tables) challenges []))
+      ∙ (ap (λ (ps : List (List ℕ)). laid (count + 1) ps messages₀)
+      (take_all j (true_polynomials n (parts count places tables) challenges)
+      (omega (arith, polynomials_count n (parts count places tables) challenges [])))
+      ∙ ap (λ (k : ℕ). join (true_polynomials n (parts count places tables) challenges) ++ drop (k * (count + 1)) messages₀)
+      (polynomials_count n (parts count places tables) challenges []))
 
   -- the message list is as long as it was
-  pub progress_long : (messages scratch : List ℕ) (size start j : ℕ) → Progress n count places tables challenges messages₀ scratch₀ messages scratch size start j → length messages ≡ length messages₀
+  pub progress_long : (messages scratch : List ℕ) (size start j : ℕ)
+      → Progress n count places tables challenges messages₀ scratch₀ messages scratch size start j → length messages ≡ length messages₀
   progress_long messages scratch size start j w =
       ap length w.written
       ∙ laid-length (count + 1) (take j (true_polynomials n (parts count places tables) challenges)) messages₀
@@ -205,7 +244,12 @@ module _ (n count places : ℕ) (tables challenges messages₀ scratch₀ : List
       (omega (
         arith,
         mul-le-mul_right {m = length (take j (true_polynomials n (parts count places tables) challenges))} {n = length challenges} (count + 1)
-            (omega (arith, length-take j (true_polynomials n (parts count places tables) challenges), polynomials_count n (parts count places tables) challenges [])),
+            (omega (
+              arith,
+              length-take j (true_polynomials n (parts count places tables) challenges),
+              polynomials_count n
+                  (parts count places tables) challenges [],
+            )),
         s.room,
       ))
 
@@ -215,4 +259,5 @@ module _ (n count places : ℕ) (tables challenges messages₀ scratch₀ : List
   cleared scratch scratch' e w =
       ap (λ (k : ℕ). replicate k 0 ++ drop k scratch') s.tables_are
       ∙ ap (λ (r : List ℕ). replicate (count * places) 0 ++ r)
-      (w ∙ (ap (drop (count * places)) e ∙ (drop_at tables (drop (length tables) scratch₀) (count * places) s.tables_are ∙ ap (λ (i : ℕ). drop i scratch₀) s.tables_are)))
+      (w ∙ (ap (drop (count * places)) e
+      ∙ (drop_at tables (drop (length tables) scratch₀) (count * places) s.tables_are ∙ ap (λ (i : ℕ). drop i scratch₀) s.tables_are)))

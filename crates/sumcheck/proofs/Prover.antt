@@ -42,7 +42,8 @@ module _ (n vars degree : ℕ) (tables challenges messages scratch : List ℕ) w
       (ap (λ (k : ℕ). choose (bad_vars vars) 1 (choose (bad_degree degree) 2 k))
       (first_either 3 (not_long (tables_length vars degree) tables) (not_long vars challenges) (4 when short ∷ 5 when outside n (tables ++ challenges) ∷ [])
       ∙ ap (λ (k : ℕ). choose (not_long (tables_length vars degree) tables) 3 (choose (not_long vars challenges) 3 k))
-      (first_either 4 (too_short (messages_length vars degree) messages) (too_short (tables_length vars degree) scratch) (5 when outside n (tables ++ challenges) ∷ [])
+      (first_either 4 (too_short (messages_length vars degree) messages) (too_short (tables_length vars degree) scratch)
+      (5 when outside n (tables ++ challenges) ∷ [])
       ∙ ap (λ (k : ℕ). choose (too_short (messages_length vars degree) messages) 4 (choose (too_short (tables_length vars degree) scratch) 4 k))
       (ap (λ (o : Bool). first (5 when o ∷ [])) (outside-append n tables challenges) ∙ first_either 5 (outside n tables) (outside n challenges) []))))
     where
@@ -64,11 +65,13 @@ module _ (n vars degree : ℕ) (tables challenges messages scratch : List ℕ) w
       past_long = unnumbered 3 rooms (long_is vars challenges l) ∙ past_tables
 
       pub prover_messages : length messages < messages_length vars degree → 4 ≡ number
-      prover_messages h = numbered 4 (4 when too_short (tables_length vars degree) scratch ∷ elements) (lt-ltb (length messages) (messages_length vars degree) h) ∙ past_long
+      prover_messages h =
+          numbered 4 (4 when too_short (tables_length vars degree) scratch ∷ elements) (lt-ltb (length messages) (messages_length vars degree) h) ∙ past_long
 
       module _ (r : messages_length vars degree ≤ length messages) where
         past_messages : first (4 when too_short (tables_length vars degree) scratch ∷ elements) ≡ number
-        past_messages = unnumbered 4 (4 when too_short (tables_length vars degree) scratch ∷ elements) (le-ltb (length messages) (messages_length vars degree) r) ∙ past_long
+        past_messages = unnumbered 4 (4 when too_short (tables_length vars degree) scratch ∷ elements)
+            (le-ltb (length messages) (messages_length vars degree) r) ∙ past_long
 
         -- scratch is as long as the tables
         long : length tables ≡ tables_length vars degree
@@ -110,8 +113,10 @@ prover_lent n vars degree tables challenges messages scratch e z =
       few = degree-within degree u.1.0;
       long = is_long (tables_length vars degree) tables (neither_left (not_long (tables_length vars degree) tables) (not_long vars challenges) three);
       rounds = is_long vars challenges (neither_right (not_long (tables_length vars degree) tables) (not_long vars challenges) three);
-      room = room (messages_length vars degree) messages (neither_left (too_short (messages_length vars degree) messages) (too_short (tables_length vars degree) scratch) four);
-      spare = room (tables_length vars degree) scratch (neither_right (too_short (messages_length vars degree) messages) (too_short (tables_length vars degree) scratch) four);
+      room = room (messages_length vars degree) messages
+          (neither_left (too_short (messages_length vars degree) messages) (too_short (tables_length vars degree) scratch) four);
+      spare = room (tables_length vars degree) scratch
+          (neither_right (too_short (messages_length vars degree) messages) (too_short (tables_length vars degree) scratch) four);
     }
 
 -- what the prover answers and leaves, from the number of its refusal
@@ -163,7 +168,8 @@ module _ (n vars degree : ℕ) (tables challenges messages scratch : List ℕ) {
       given_by rules refl tt e z,
       (
         f
-            ∙ (ap₂ {B = ℕ} (λ (x w : ℕ). join (true_polynomials n (parts degree x tables) challenges) ++ drop w messages) places written ∙ left_by rules _ messages e z),
+            ∙ (ap₂ {B = ℕ} (λ (x w : ℕ). join (true_polynomials n (parts degree x tables) challenges) ++ drop w messages) places written
+            ∙ left_by rules _ messages e z),
         g ∙ (ap (λ (x : ℕ). replicate (degree * x) 0 ++ drop (degree * x) scratch) places ∙ left_by rules _ scratch e z),
       ),
     )

@@ -57,7 +57,8 @@ prover_writes n vars degree tables challenges messages scratch h =
       λ (j : ℕ) (l : j < vars). ap (λ (xs : List ℕ). get_or (messages_of vars degree xs) j []) left
           ∙ proof-round n vars degree tables challenges e (drop (messages_length vars degree) messages) j l,
       ap (drop (messages_length vars degree)) left
-          ∙ drop_at (join (true_polynomials n (tables_of vars degree tables) challenges)) (drop (messages_length vars degree) messages) (messages_length vars degree)
+          ∙ drop_at (join (true_polynomials n (tables_of vars degree tables) challenges)) (drop (messages_length vars degree) messages)
+          (messages_length vars degree)
           (proof-length n vars degree tables challenges e),
       sym (left_by rules (cleared n vars degree tables challenges messages scratch) scratch refl z),
     )

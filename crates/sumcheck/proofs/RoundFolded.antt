@@ -39,7 +39,8 @@ times_reduced n a b q =
 
 -- a round's line at a corner is the line of the folded table at the corner's index, reduced
 line-folded : (n : ℕ) → 0 < n → (r b t : List ℕ) (rest : ℕ) → Corner rest b
-    → line n r b t ≡ (get_or (folded n t r (suc rest)) (index b) 0 % n) ∷ sub n (get_or (folded n t r (suc rest)) (2 ^ rest + index b) 0 % n) (get_or (folded n t r (suc rest)) (index b) 0 % n) ∷ []
+    → line n r b t ≡ (get_or (folded n t r (suc rest)) (index b) 0 % n) ∷ sub n (get_or (folded n t r (suc rest)) (2 ^ rest + index b) 0 % n)
+    (get_or (folded n t r (suc rest)) (index b) 0 % n) ∷ []
 line-folded n h r b t rest c =
     ap₂ (λ (a d : ℕ). a ∷ sub n d a ∷ []) (value 0 (index b) (omega arith) (sym (low_index (2 ^ length b) (index b))))
     (value 1 (2 ^ rest + index b) (omega arith) (sym (high_index (2 ^ length b) (index b)) ∙ ap (λ (l : ℕ). 2 ^ l + index b) c.members))
@@ -64,7 +65,8 @@ pub polynomial_folded : (n : ℕ) → 0 < n → (ts : List (List ℕ)) (r : List
 polynomial_folded n h ts r rest =
     ap (plus_all n)
     (map_same (λ (b : List ℕ). times_all n (map (line n r b) ts)) (λ (b : List ℕ). term_at n (2 ^ rest) us (index b)) (corners rest)
-    (every_map (Corner rest) (λ (b : List ℕ). times_all n (map (line n r b) ts) ≡ term_at n (2 ^ rest) us (index b)) (λ (b : List ℕ) (c : Corner rest b). term_folded n h r b rest c ts) (corners rest) (corner_all rest))
+    (every_map (Corner rest) (λ (b : List ℕ). times_all n (map (line n r b) ts) ≡ term_at n (2 ^ rest) us (index b))
+    (λ (b : List ℕ) (c : Corner rest b). term_folded n h r b rest c ts) (corners rest) (corner_all rest))
     ∙ (sym (map_twice (term_at n (2 ^ rest) us) index (corners rest)) ∙ ap (map (term_at n (2 ^ rest) us)) (corners_count rest)))
   where
     us : List (List ℕ)

@@ -13,8 +13,10 @@ use Rattle.refusals.proofs.First.{decide_first}
 use Rattle.refusals.proofs.Order.{kept_by, decided_given, decided_refused}
 use Rattle.sumcheck.specs.Protocol.{fits, Rounds, rounds, final}
 use Rattle.sumcheck.specs.Checker.{claim_after}
-use Rattle.sumcheck.specs.Steps.{State, Back, fresh, opening_rules, opened, Judged, fitted, rejects, step_rules, onward, marked, judged, moved, closing_rules, closed}
-use Rattle.sumcheck.specs.Sequences.{Input, end_of, outcomes_of, kept, givens, challenges_of, messages_in, taken_by, rejected_by, answers_by, kept_of, StepsFollow, ClosingFollows, RefusedKeeps, DoubtedAlike}
+use Rattle.sumcheck.specs.Steps.{State, Back, fresh, opening_rules, opened, Judged, fitted, rejects, step_rules, onward, marked, judged, moved}
+use Rattle.sumcheck.specs.Steps.{closing_rules, closed}
+use Rattle.sumcheck.specs.Sequences.{Input, end_of, outcomes_of, kept, givens, challenges_of, messages_in, taken_by, rejected_by, answers_by, kept_of}
+use Rattle.sumcheck.specs.Sequences.{StepsFollow, ClosingFollows, RefusedKeeps, DoubtedAlike}
 use Rattle.sumcheck.proofs.Steps.{unrefused, step_rest, closing_rest, step-refused, step_given}
 use Rattle.sumcheck.proofs.Followed.{follow, answers, state_at, Ended, through, stopped, ended}
 
@@ -103,11 +105,13 @@ unfolding StepsFollow
 steps_follow n vars degree claim inputs =
     let u = followed n inputs (fresh vars degree claim) refl in
     let k = kept_of n vars degree claim inputs in
-    let w = stands n vars degree claim (challenges_of k) (messages_in k) (follow n (fresh vars degree claim) k) (answers n (fresh vars degree claim) k) (ended n vars degree claim k) in
+    let w = stands n vars degree claim (challenges_of k) (messages_in k) (follow n (fresh vars degree claim) k) (answers n (fresh vars degree claim) k)
+    (ended n vars degree claim k) in
     (u.0 ∙ w.0, u.1 ∙ (w.1 ∙ ap (λ (m : ℕ). answers_by m (rounds n claim (challenges_of k) (messages_in k))) (length-map k (λ (i : Input). i.challenge))))
 
 -- closing such a state gives the final check of its rounds
-pub closed-ended : (n vars degree claim : ℕ) (rs : List ℕ) (ms : List (List ℕ)) (s : State) (told : List Judged) (v : ℕ) → Ended n vars degree claim rs ms s told
+pub closed-ended : (n vars degree claim : ℕ) (rs : List ℕ) (ms : List (List ℕ)) (s : State) (told : List Judged) (v : ℕ)
+    → Ended n vars degree claim rs ms s told
     → closed s v ≡ final vars v (rounds n claim rs ms)
 closed-ended n vars degree claim rs ms s told v (through c w o e a) = ap (λ (x : State). closed x v) e ∙ ap (final vars v) (sym o)
 closed-ended n vars degree claim rs ms s told v (stopped j l o e a) = ap (λ (x : State). closed x v) e ∙ ap (final vars v) (sym o)
@@ -119,7 +123,8 @@ closing_follows n vars degree claim inputs v a h =
     let k = kept_of n vars degree claim inputs in
     sym (decided_given (closing_rules n s v) refl (closed s v) a h).1
     ∙ (ap (λ (x : State). closed x v) (followed n inputs (fresh vars degree claim) refl).0
-    ∙ closed-ended n vars degree claim (challenges_of k) (messages_in k) (follow n (fresh vars degree claim) k) (answers n (fresh vars degree claim) k) v (ended n vars degree claim k))
+    ∙ closed-ended n vars degree claim (challenges_of k) (messages_in k) (follow n (fresh vars degree claim) k)
+    (answers n (fresh vars degree claim) k) v (ended n vars degree claim k))
 
 pub refused_keeps : RefusedKeeps
 unfolding RefusedKeeps
@@ -133,6 +138,7 @@ doubted-alike n vars degree claim number h =
     let s = fresh vars degree claim in
     let d = decided_refused (opening_rules n vars degree claim) refl opened number h in
     let some : first (opening_rules n vars degree claim) ≡ 0 → ⊥ = λ (z : first (opening_rules n vars degree claim) ≡ 0). d.1 (sym d.0 ∙ z) in (
-      λ (message : List ℕ) (challenge : ℕ). decide_first (opening_rules n vars degree claim) (step_rest n s message challenge) (judged n s message) some ∙ ap refused d.0,
+      λ (message : List ℕ) (challenge : ℕ). decide_first (opening_rules n vars degree claim) (step_rest n s message challenge) (judged n s message) some
+          ∙ ap refused d.0,
       λ (v : ℕ). decide_first (opening_rules n vars degree claim) (closing_rest n s v) (closed s v) some ∙ ap refused d.0,
     )

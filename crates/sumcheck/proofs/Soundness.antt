@@ -61,12 +61,22 @@ round n h ts rs r x c s ss wrong fit next = go (eqb (value n s x) (value n g x))
     positive : 0 < n
     positive = omega (arith, h.above)
 
-    go : (b : Bool) → eqb (value n s x) (value n (true_polynomial n ts r (length rs)) x) ≡ b → (i : ℕ) × Met n (x ∷ rs) (s ∷ ss) (polynomials_after n ts r (x ∷ rs)) i
-    go true e =
-        (0, record { within = omega arith; apart = λ (z : s ≡ g). wrong (sym fit ∙ (ap (λ (p : List ℕ). add n (value n p 0) (value n p 1)) z ∙ polynomial_sum n positive ts r (length rs))); agree = eqb-true (value n s x) (value n g x) e })
+    go : (b : Bool) → eqb (value n s x) (value n (true_polynomial n ts r (length rs)) x) ≡ b → (i : ℕ)
+        × Met n (x ∷ rs) (s ∷ ss) (polynomials_after n ts r (x ∷ rs)) i
+    go true e = (
+      0,
+      record {
+        within = omega arith;
+        apart = λ (z : s ≡ g). wrong
+            (sym fit ∙ (ap (λ (p : List ℕ). add n (value n p 0) (value n p 1)) z ∙ polynomial_sum n positive ts r (length rs)));
+        agree =
+            eqb-true (value n s x) (value n g x) e;
+      },
+    )
     go false e =
         later n x rs s g ss (polynomials_after n ts (r ++ x ∷ []) rs)
-        (next (λ (z : value n s x ≡ true_claim n ts (r ++ x ∷ []) (length rs)). eqb-false (value n s x) (value n g x) e (z ∙ sym (polynomial_claim n positive ts r (length rs) x))))
+        (next (λ (z : value n s x ≡ true_claim n ts (r ++ x ∷ []) (length rs)). eqb-false (value n s x) (value n g x) e
+        (z ∙ sym (polynomial_claim n positive ts r (length rs) x))))
 
 lucky_from : (n : ℕ) → Prime n → (ts : List (List ℕ)) (rs r : List ℕ) (ms : List (List ℕ)) (j c v : ℕ) → (c ≡ true_claim n ts r (length rs) → ⊥)
     → rounds_from n j c rs ms ≡ reached v → v ≡ f n ts (r ++ rs) → (i : ℕ) × Met n rs ms (polynomials_after n ts r rs) i

@@ -17,7 +17,8 @@ use Rattle.refusals.proofs.First.{choose-true, choose-false}
 use Rattle.refusals.proofs.Order.{first_turned, first_passed, refused_by, given_by, kept_by, left_by, untested, neither_left, neither_right}
 use Rattle.sumcheck.specs.Protocol.{fits, Verdict, accepted, rejected, final, reached}
 use Rattle.sumcheck.specs.Lent.{not_long}
-use Rattle.sumcheck.specs.Steps.{State, Back, complete, over, forged, opening_rules, opened, fresh, opening, fitted, rejects, step_rules, onward, marked, judged, moved, step, closing_rules, closed, closing}
+use Rattle.sumcheck.specs.Steps.{State, Back, complete, over, forged, opening_rules, opened, fresh, opening, fitted, rejects, step_rules, onward}
+use Rattle.sumcheck.specs.Steps.{marked, judged, moved, step, closing_rules, closed, closing}
 use Rattle.sumcheck.proofs.Walk.{array_fits, array_value}
 use Rattle.sumcheck.proofs.Unrefused.{vars-within, degree-within, is_long, is_inside}
 
@@ -87,12 +88,14 @@ unrefused n s message challenge e z =
 module _ (n : ℕ) (s : State) (message : List ℕ) (challenge : ℕ) {k : ℕ} (e : k ≡ first (step_rules n s message challenge)) where
   pub step-refused : (k ≡ 0 → ⊥) → record { state = s; outcome = refused k } ≡ step n s message challenge
   step-refused z =
-      back (kept_by (step_rules n s message challenge) (moved n s message challenge) s e z) (refused_by (step_rules n s message challenge) refl (judged n s message) e z)
+      back (kept_by (step_rules n s message challenge) (moved n s message challenge) s e z)
+      (refused_by (step_rules n s message challenge) refl (judged n s message) e z)
 
   -- a step that is not refused
   pub step_given : k ≡ 0 → record { state = moved n s message challenge; outcome = given (judged n s message) } ≡ step n s message challenge
   step_given z =
-      back (left_by (step_rules n s message challenge) (moved n s message challenge) s e z) (given_by (step_rules n s message challenge) refl (judged n s message) e z)
+      back (left_by (step_rules n s message challenge) (moved n s message challenge) s e z)
+      (given_by (step_rules n s message challenge) refl (judged n s message) e z)
 
   -- its array
   fitting : k ≡ 0 → (cs : List ℕ) → cs ≡ padded (suc max_degree) message → {t : Bool} → t ≡ fits n cs s.claim → fits n message s.claim ≡ t
@@ -101,8 +104,10 @@ module _ (n : ℕ) (s : State) (message : List ℕ) (challenge : ℕ) {k : ℕ} 
       sym (f ∙ array_fits n message cs s.claim a (omega (arith, u.long, u.degree)))
 
   -- its sum fits
-  pub step_fits : k ≡ 0 → (cs : List ℕ) → cs ≡ padded (suc max_degree) message → {t : Bool} → t ≡ fits n cs s.claim → t ≡ true → {v : ℕ} → v ≡ value n cs challenge
-      → record { state = record { vars = s.vars; degree = s.degree; taken = s.taken + 1; claim = v; mark = false }; outcome = given fitted } ≡ step n s message challenge
+  pub step_fits : k ≡ 0 → (cs : List ℕ) → cs ≡ padded (suc max_degree) message → {t : Bool} → t ≡ fits n cs s.claim → t ≡ true → {v : ℕ}
+      → v ≡ value n cs challenge
+      → record { state = record { vars = s.vars; degree = s.degree; taken = s.taken + 1; claim = v; mark = false }; outcome = given fitted } ≡ step n s
+      message challenge
   step_fits z cs a f y w =
       let u : Unrefused n s message challenge = unrefused n s message challenge e z in
       let true-fit : fits n message s.claim ≡ true = fitting z cs a f ∙ y in

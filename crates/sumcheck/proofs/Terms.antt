@@ -22,7 +22,8 @@ use Rattle.sumcheck.proofs.RoundFolded.{line_at, term_at, round_of}
 -- a term has one coefficient more than there are tables
 pub term_length : (n half : ℕ) (us : List (List ℕ)) (i : ℕ) → length (term_at n half us i) ≡ suc (length us)
 term_length n half us i =
-    length-times_all n (map (line_at n half i) us) (every_of_map (λ (q : List ℕ). length q ≡ 2) (line_at n half i) us (every (λ (u : List ℕ). length (line_at n half i u) ≡ 2) (λ (u : List ℕ). refl) us))
+    length-times_all n (map (line_at n half i) us)
+    (every_of_map (λ (q : List ℕ). length q ≡ 2) (line_at n half i) us (every (λ (u : List ℕ). length (line_at n half i u) ≡ 2) (λ (u : List ℕ). refl) us))
     ∙ ap suc (length-map us (line_at n half i))
 
 -- the product of the lines of the tables from the one numbered left on
@@ -35,7 +36,8 @@ term_start n half i places count xs = ap (λ (m : ℕ). term_at n half (parts m 
 
 -- the line of the next table
 line-next : (n half i places l : ℕ) (xs : List ℕ) → half + i < places
-    → line_at n half i (take places (drop (l * places) xs)) ≡ get_or xs (l * places + i) 0 ∷ sub n (get_or xs (l * places + i + half) 0) (get_or xs (l * places + i) 0) ∷ []
+    → line_at n half i (take places (drop (l * places) xs)) ≡ get_or xs (l * places + i) 0 ∷ sub n (get_or xs (l * places + i + half) 0)
+    (get_or xs (l * places + i) 0) ∷ []
 line-next n half i places l xs h =
     ap₂ (λ (a d : ℕ). a ∷ sub n d a ∷ []) (place i (omega arith)) (place (half + i) h ∙ ap (λ (j : ℕ). get_or xs j 0) (reach (l * places) half i))
   where
@@ -51,7 +53,8 @@ parts_earlier : (places count l : ℕ) (xs : List ℕ) → suc l ≤ count
 unfolding parts
 parts_earlier places count l xs h =
     ap (λ (m : ℕ). parts m places (drop (l * places) xs)) (step count l h)
-    ∙ ap (λ (ys : List ℕ). take places (drop (l * places) xs) ∷ parts (count - suc l) places ys) (drop-drop places (l * places) xs ∙ ap (λ (j : ℕ). drop j xs) (next l))
+    ∙ ap (λ (ys : List ℕ). take places (drop (l * places) xs) ∷ parts (count - suc l) places ys)
+    (drop-drop places (l * places) xs ∙ ap (λ (j : ℕ). drop j xs) (next l))
   where
     step : (count l : ℕ) → suc l ≤ count → count - l ≡ suc (count - suc l)
     step count l h = omega arith
@@ -68,7 +71,8 @@ term_step n half i places count top l xs product h t k e =
     ap (line_times n a (sub n b a) 0) (e ∙ ap (λ (z : ℕ). q ++ replicate z 0) (room count top l h t))
     ∙ (line_times_some n a (sub n b a) (top - (count - l)) q (omega (arith, term_length n half (parts (count - suc l) places (drop (suc l * places) xs)) i))
     ∙ ap (λ (r : List ℕ). r ++ replicate (top - (count - l)) 0)
-    (ap (λ (line : List ℕ). times n line q) (sym (line-next n half i places l xs k)) ∙ ap (λ (us : List (List ℕ)). term_at n half us i) (sym (parts_earlier places count l xs h))))
+    (ap (λ (line : List ℕ). times n line q) (sym (line-next n half i places l xs k))
+    ∙ ap (λ (us : List (List ℕ)). term_at n half us i) (sym (parts_earlier places count l xs h))))
   where
     a : ℕ
     a = get_or xs (l * places + i) 0
@@ -86,7 +90,8 @@ term_step n half i places count top l xs product h t k e =
 abbrev pub sum_from : ℕ → ℕ → ℕ → List (List ℕ) → ℕ → List ℕ
 sum_from n half count us i = total n (count + 1) (map (term_at n half us) (count_from i (half - i)))
 
-terms_length : (n half count : ℕ) (us : List (List ℕ)) → length us ≡ count → (is : List ℕ) → Every (λ (q : List ℕ). length q ≡ count + 1) (map (term_at n half us) is)
+terms_length : (n half count : ℕ) (us : List (List ℕ)) → length us ≡ count → (is : List ℕ)
+    → Every (λ (q : List ℕ). length q ≡ count + 1) (map (term_at n half us) is)
 terms_length n half count us e is =
     every_of_map (λ (q : List ℕ). length q ≡ count + 1) (term_at n half us) is
     (every (λ (i : ℕ). length (term_at n half us i) ≡ count + 1) (λ (i : ℕ). term_length n half us i ∙ (ap suc e ∙ sym (add-one count))) is)
@@ -94,14 +99,17 @@ terms_length n half count us e is =
 pub sum_start : (n half count z : ℕ) (us : List (List ℕ)) → sum_from n half count us half ++ replicate z 0 ≡ replicate (count + 1 + z) 0
 unfolding count_from
 sum_start n half count z us =
-    ap (λ (c : ℕ). total n (count + 1) (map (term_at n half us) (count_from half c)) ++ replicate z 0) (sub_self half) ∙ replicate-append-replicate (count + 1) z 0
+    ap (λ (c : ℕ). total n (count + 1) (map (term_at n half us) (count_from half c)) ++ replicate z 0) (sub_self half)
+    ∙ replicate-append-replicate (count + 1) z 0
 
 -- one place earlier
 pub sum_step : (n half count z i : ℕ) (us : List (List ℕ)) → length us ≡ count → (i ≡ 0 → ⊥) → i ≤ half
     → plus n (term_at n half us (i - 1) ++ replicate z 0) (sum_from n half count us i ++ replicate z 0) ≡ sum_from n half count us (i - 1) ++ replicate z 0
 sum_step n half count z i us e h l =
     plus-padded n z (term_at n half us (i - 1)) (sum_from n half count us i)
-    (term_length n half us (i - 1) ∙ (ap suc e ∙ (sym (add-one count) ∙ sym (length-total n (count + 1) (map (term_at n half us) (count_from i (half - i))) (terms_length n half count us e (count_from i (half - i)))))))
+    (term_length n half us (i - 1)
+    ∙ (ap suc e ∙ (sym (add-one count)
+    ∙ sym (length-total n (count + 1) (map (term_at n half us) (count_from i (half - i))) (terms_length n half count us e (count_from i (half - i)))))))
     ∙ ap (λ (is : List ℕ). total n (count + 1) (map (term_at n half us) is) ++ replicate z 0) (sym (count_cons i half h l))
 
 -- the whole sum is the round's polynomial
@@ -122,7 +130,8 @@ term_first n half i places count top xs =
 
 pub term_turn : (n half i places count top left : ℕ) (xs product : List ℕ) → (left ≡ 0 → ⊥) → left ≤ count → count ≤ top → half + i < places
     → product ≡ term_left n half i places count left xs ++ replicate (top - (count - left)) 0
-    → line_times n (get_or xs ((left - 1) * places + i) 0) (sub n (get_or xs ((left - 1) * places + i + half) 0) (get_or xs ((left - 1) * places + i) 0)) 0 product
+    → line_times n (get_or xs ((left - 1) * places + i) 0)
+    (sub n (get_or xs ((left - 1) * places + i + half) 0) (get_or xs ((left - 1) * places + i) 0)) 0 product
     ≡ term_left n half i places count (left - 1) xs ++ replicate (top - (count - (left - 1))) 0
 term_turn n half i places count top left xs product ne h t k e =
     term_step n half i places count top (left - 1) xs product (omega arith) t k

@@ -110,7 +110,8 @@ left : (n vars degree : ℕ) (tables challenges messages scratch : List ℕ) →
     → length messages ≡ messages_length vars degree
     → messages_after n vars degree tables challenges messages scratch ≡ join (true_polynomials n (tables_of vars degree tables) challenges)
 left n vars degree tables challenges messages scratch z e =
-    choose-true (proof ++ drop (messages_length vars degree) messages) messages (eq-eqb (first (prover_rules n vars degree tables challenges messages scratch)) 0 z)
+    choose-true (proof ++ drop (messages_length vars degree) messages) messages
+    (eq-eqb (first (prover_rules n vars degree tables challenges messages scratch)) 0 z)
     ∙ (ap (λ (l : List ℕ). proof ++ l) (ap (λ (k : ℕ). drop k messages) (sym e) ∙ drop-length messages) ∙ append-nil proof)
   where
     proof : List ℕ
@@ -133,5 +134,6 @@ well_lent n vars degree tables challenges messages scratch z =
 pub prover_accepted : ProverAccepted
 unfolding ProverAccepted AnswerComplete
 prover_accepted n h vars degree tables challenges messages scratch z e =
-    ap (checker_answer n vars degree tables (true_sum n (tables_of vars degree tables) vars) challenges) (left n vars degree tables challenges messages scratch z e)
+    ap (checker_answer n vars degree tables (true_sum n (tables_of vars degree tables) vars) challenges)
+    (left n vars degree tables challenges messages scratch z e)
     ∙ answer_complete n h vars degree tables challenges (well_lent n vars degree tables challenges messages scratch z)

@@ -60,14 +60,16 @@ polynomial_sum n h ts r rest =
     g : List ℕ → ℕ
     g b = f n ts (r ++ b)
 
-    half : (x : ℕ) → sum n (map (λ (b : List ℕ). f n ts (r ++ x ∷ b)) (corners rest)) ≡ sum n (map (λ (b : List ℕ). f n ts (r ++ b)) (map (λ (b : List ℕ). x ∷ b) (corners rest)))
+    half : (x : ℕ) → sum n (map (λ (b : List ℕ). f n ts (r ++ x ∷ b)) (corners rest)) ≡ sum n
+        (map (λ (b : List ℕ). f n ts (r ++ b)) (map (λ (b : List ℕ). x ∷ b) (corners rest)))
     half x = ap (sum n) (sym (map_twice (λ (b : List ℕ). f n ts (r ++ b)) (λ (b : List ℕ). x ∷ b) (corners rest)))
 
 -- it has k + 1 coefficients
 pub polynomial_length : (n : ℕ) (ts : List (List ℕ)) (r : List ℕ) (rest : ℕ) → length (true_polynomial n ts r rest) ≡ suc (length ts)
 polynomial_length n ts r rest =
     length-plus_all n (suc (length ts)) (map term (corners rest)) (omega (arith, length-map (corners rest) term, corners_some rest))
-    (every_of_map (λ (q : List ℕ). length q ≡ suc (length ts)) term (corners rest) (every (λ (b : List ℕ). length (term b) ≡ suc (length ts)) term_length (corners rest)))
+    (every_of_map (λ (q : List ℕ). length q ≡ suc (length ts)) term (corners rest)
+    (every (λ (b : List ℕ). length (term b) ≡ suc (length ts)) term_length (corners rest)))
   where
     term : List ℕ → List ℕ
     term b = times_all n (map (line n r b) ts)

@@ -16,10 +16,12 @@ use Rattle.sumcheck.specs.Lent.{bad_vars, bad_degree, not_long}
 use Rattle.sumcheck.proofs.Answers.{shape_rules}
 
 -- the shape is judged first
-pub shape-turned : (vars degree : ℕ) (rest : List Rule) {k : ℕ} → k ≡ first (shape_rules vars degree) → (k ≡ 0 → ⊥) → k ≡ first (shape_rules vars degree ++ rest)
+pub shape-turned : (vars degree : ℕ) (rest : List Rule) {k : ℕ} → k ≡ first (shape_rules vars degree) → (k ≡ 0 → ⊥)
+    → k ≡ first (shape_rules vars degree ++ rest)
 shape-turned vars degree rest e z = first_turned (shape_rules vars degree) rest e z
 
-pub shape-passed : (vars degree : ℕ) (rest : List Rule) {k : ℕ} → k ≡ first (shape_rules vars degree) → k ≡ 0 → first rest ≡ first (shape_rules vars degree ++ rest)
+pub shape-passed : (vars degree : ℕ) (rest : List Rule) {k : ℕ} → k ≡ first (shape_rules vars degree) → k ≡ 0
+    → first rest ≡ first (shape_rules vars degree ++ rest)
 shape-passed vars degree rest e z = first_passed (shape_rules vars degree) rest refl e z
 
 pub vars-within : (vars : ℕ) → bad_vars vars ≡ false → vars ≤ max_vars

@@ -21,7 +21,8 @@ use Rattle.sumcheck.specs.Lent.{parts}
 use Rattle.sumcheck.proofs.Parts.{part_of}
 
 -- a message in an array has its values and its sum
-pub array_value : (n : ℕ) (message cs : List ℕ) (x : ℕ) → cs ≡ padded (suc max_degree) message → length message ≤ suc max_degree → value n cs x ≡ value n message x
+pub array_value : (n : ℕ) (message cs : List ℕ) (x : ℕ) → cs ≡ padded (suc max_degree) message → length message ≤ suc max_degree
+    → value n cs x ≡ value n message x
 array_value n message cs x e h = ap (λ (l : List ℕ). value n l x) e ∙ padded-value n (suc max_degree) message x h
 
 pub array_fits : (n : ℕ) (message cs : List ℕ) (c : ℕ) → cs ≡ padded (suc max_degree) message → length message ≤ suc max_degree → fits n cs c ≡ fits n message c
@@ -51,13 +52,15 @@ message_part width xs j = part_of (j * width) width xs
 next : (n claim : ℕ) (rs : List ℕ) (width : ℕ) (xs : List ℕ) (j c : ℕ) → j < length rs → Walked n claim rs width xs j c
     → rounds n claim rs (parts (length rs) width xs)
     ≡ choose (fits n (message_at width xs j) c)
-    (rounds_from n (suc (suc j)) (value n (message_at width xs j) (get_or rs j 0)) (drop (suc j) rs) (parts (length rs - suc j) width (drop (suc j * width) xs)))
+    (rounds_from n (suc (suc j)) (value n (message_at width xs j) (get_or rs j 0)) (drop (suc j) rs)
+    (parts (length rs - suc j) width (drop (suc j * width) xs)))
     (failed (suc j))
 unfolding parts
 next n claim rs width xs j c h w =
     w
     ∙ (ap₂ (λ (l : List ℕ) (m : ℕ). rounds_from n (suc j) c l (parts m width (drop (j * width) xs))) (drop-cons rs j 0 h) one_more
-    ∙ ap (λ (l : List ℕ). choose (fits n (message_at width xs j) c) (rounds_from n (suc (suc j)) (value n (message_at width xs j) (get_or rs j 0)) (drop (suc j) rs) (parts (length rs - suc j) width l)) (failed (suc j)))
+    ∙ ap (λ (l : List ℕ). choose (fits n (message_at width xs j) c)
+    (rounds_from n (suc (suc j)) (value n (message_at width xs j) (get_or rs j 0)) (drop (suc j) rs) (parts (length rs - suc j) width l)) (failed (suc j)))
     (drop-drop width (j * width) xs ∙ ap (λ (i : ℕ). drop i xs) over))
   where
     one_more : length rs - j ≡ suc (length rs - suc j)
@@ -83,7 +86,8 @@ walked_failed n claim rs width xs j c h w e =
     sym
     (next n claim rs width xs j c h w
     ∙ choose-false
-    (rounds_from n (suc (suc j)) (value n (message_at width xs j) (get_or rs j 0)) (drop (suc j) rs) (parts (length rs - suc j) width (drop (suc j * width) xs)))
+    (rounds_from n (suc (suc j)) (value n (message_at width xs j) (get_or rs j 0)) (drop (suc j) rs)
+    (parts (length rs - suc j) width (drop (suc j * width) xs)))
     (failed (suc j))
     e)
 

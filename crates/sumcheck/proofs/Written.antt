@@ -32,7 +32,8 @@ pub written_more : (g : ℕ → ℕ) (i : ℕ) (xs : List ℕ) → i < length xs
 written_more g i xs h =
     ap (λ (r : List ℕ). set (map g (count_from 0 i) ++ r) i (g i)) (drop-cons xs i 0 h)
     ∙ (set_at (map g (count_from 0 i)) (get_or xs i 0) (drop (suc i) xs) (g i) i (front_length g i)
-    ∙ (sym (append_assoc (map g (count_from 0 i)) (g i ∷ []) (drop (suc i) xs)) ∙ ap₂ (λ (a : List ℕ) (j : ℕ). a ++ drop j xs) (sym (front_more g i)) (sym (add-one i))))
+    ∙ (sym (append_assoc (map g (count_from 0 i)) (g i ∷ []) (drop (suc i) xs))
+    ∙ ap₂ (λ (a : List ℕ) (j : ℕ). a ++ drop j xs) (sym (front_more g i)) (sym (add-one i))))
 
 pub written-length : (g : ℕ → ℕ) (i : ℕ) (xs : List ℕ) → i ≤ length xs → length (written g i xs) ≡ length xs
 written-length g i xs h = omega (arith, length-append (map g (count_from 0 i)) (drop i xs), front_length g i, length-drop i xs)

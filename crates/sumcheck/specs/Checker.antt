@@ -68,13 +68,15 @@ WellLent n vars degree tables challenges = first (value_rules n vars degree tabl
 
 unfoldable pub AnswerComplete : Type 0
 AnswerComplete = (n : ℕ) → 0 < n → (vars degree : ℕ) (tables challenges : List ℕ) → WellLent n vars degree tables challenges
-    → checker_answer n vars degree tables (true_sum n (tables_of vars degree tables) vars) challenges (join (true_polynomials n (tables_of vars degree tables) challenges))
+    → checker_answer n vars degree tables (true_sum n (tables_of vars degree tables) vars) challenges
+    (join (true_polynomials n (tables_of vars degree tables) challenges))
     ≡ given accepted
 
 unfoldable pub ProverAccepted : Type 0
 ProverAccepted = (n : ℕ) → 0 < n → (vars degree : ℕ) (tables challenges messages scratch : List ℕ)
     → first (prover_rules n vars degree tables challenges messages scratch) ≡ 0 → length messages ≡ messages_length vars degree
-    → checker_answer n vars degree tables (true_sum n (tables_of vars degree tables) vars) challenges (messages_after n vars degree tables challenges messages scratch)
+    → checker_answer n vars degree tables (true_sum n (tables_of vars degree tables) vars) challenges
+    (messages_after n vars degree tables challenges messages scratch)
     ≡ given accepted
 
 unfoldable pub AnswerCertain : Type 0

@@ -96,7 +96,8 @@ inputs_of (r ∷ challenges) (s ∷ messages) = record { message = s; challenge 
 unfoldable pub StepsAgree : Type 0
 StepsAgree = (n vars degree : ℕ) (tables : List ℕ) (claim : ℕ) (challenges messages : List ℕ)
     → first (checker_rules n vars degree tables claim challenges messages) ≡ 0
-    → (closing n (end_of n (fresh vars degree claim) (inputs_of challenges (messages_of vars degree messages))) (f n (tables_of vars degree tables) challenges)).outcome
+    → (closing n (end_of n (fresh vars degree claim) (inputs_of challenges (messages_of vars degree messages)))
+    (f n (tables_of vars degree tables) challenges)).outcome
     ≡ checker_answer n vars degree tables claim challenges messages
 
 -- what a state says of the rounds behind it: the running claim, or the rejecting round
@@ -106,7 +107,8 @@ rounds_by s = choose s.mark (failed (suc s.taken)) (reached s.claim)
 unfoldable pub RoundsAgree : Type 0
 RoundsAgree = (n vars degree claim : ℕ) (challenges messages : List ℕ)
     → first (rounds_rules n vars degree claim challenges messages) ≡ 0
-    → given (rounds_by (end_of n (fresh vars degree claim) (inputs_of challenges (messages_of vars degree messages)))) ≡ rounds_answer n vars degree claim challenges messages
+    → given (rounds_by (end_of n (fresh vars degree claim) (inputs_of challenges (messages_of vars degree messages)))) ≡ rounds_answer n vars degree
+    claim challenges messages
 
 unfoldable pub RefusedKeeps : Type 0
 RefusedKeeps = (n : ℕ) (s : State) (message : List ℕ) (challenge number : ℕ) → (step n s message challenge).outcome ≡ refused number

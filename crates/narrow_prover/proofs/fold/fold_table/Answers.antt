@@ -4,11 +4,8 @@ use native.Mathlib.Omega.{arith}
 use Rattle.sumcheck.specs.Folding.{between}
 use Rattle.sumcheck.proofs.Written.{written_none, written_next, written_at}
 use Rattle.narrow_field.specs.Narrow.{p}
+use Rattle.narrow_prover.proofs.fold.fold_table.Invariants.{at_last}
 use Rattle.narrow_prover.proofs.fold.fold_table.Goals as goal
-
--- what stands at j in the end
-abbrev at_last : ℕ → ℕ → List ℕ → ℕ → ℕ
-at_last r half table j = between p r (get_or table j 0) (get_or table (half + j) 0)
 
 pub loop-i-init : goal.loop-i-init
 loop-i-init c = (omega arith, written_none (at_last c.args.r c.args.half c.args.table.now) c.args.table.now)

@@ -22,7 +22,8 @@ loop-left-preserved c =
       omega (arith, c.times-value.ensures),
       ap (λ (v : ℕ). product_left p value at.places v (loop.left - 1) (loop.start + at.places) at.tables.now)
           (c.times-value.ensures
-          ∙ ap (mul p loop.value) (sym (get_or-take at.places (drop loop.start at.tables.now) at.i 0 c.requires.0 ∙ get_or-drop loop.start at.tables.now at.i 0)))
+          ∙ ap (mul p loop.value) (sym (get_or-take at.places (drop loop.start at.tables.now) at.i 0 c.requires.0
+          ∙ get_or-drop loop.start at.tables.now at.i 0)))
           ∙ (product-step p value at.places loop.value loop.left loop.start at.tables.now c.loop-left-test.true ∙ loop.invariant.2),
     )
 
@@ -30,4 +31,5 @@ pub returns : goal.returns
 returns c =
     let at = c.args in
     let loop = c.loop-left in
-    product-end p (λ (t : List ℕ). get_or t at.i 0) at.places loop.value loop.left loop.start at.tables.now c.loop-left-test.false loop.invariant.1 ∙ loop.invariant.2
+    product-end p (λ (t : List ℕ). get_or t at.i 0) at.places loop.value loop.left loop.start at.tables.now c.loop-left-test.false loop.invariant.1
+    ∙ loop.invariant.2
