@@ -4,15 +4,8 @@ use Rattle.std.specs.Prelude.{List, [], ◌∷◌, ℕ, eqb}
 use Rattle.arithmetic.specs.Modulo.{add, sub, neg, mul, pow}
 use Rattle.arithmetic.specs.Prime.{inverse}
 use Rattle.refusals.specs.First as First
-use Rattle.refusals.specs.First.{◌when◌, outside, refused, given, decide}
+use Rattle.refusals.specs.First.{◌when◌, outside, decide}
 use Rattle.narrow_field.specs.Narrow.{p}
-use Rattle.narrow_field.specs.declared.Answer.{Answer}
-use Rattle.narrow_field.specs.declared.Answer.TheVariants.{Given, Refused}
-
--- an answer of the code in the document's terms
-abbrev pub said : Answer → First.Answer ℕ
-said (Given x) = given x
-said (Refused number) = refused number
 
 -- an answer of elements alone
 abbrev pub of_elements : List ℕ → ℕ → First.Answer ℕ

@@ -2,10 +2,12 @@
 ghost use Rattle.std.specs.Prelude.{◌≡◌, ◌<◌};
 ghost use Rattle.arithmetic.specs.Prime.{inverse};
 ghost use Rattle.narrow_field.specs.Narrow.{p};
-ghost use Rattle.narrow_field.specs.Field.{said, inverse_of};
+ghost use Rattle.refusals.specs.Said.{said};
+ghost use Rattle.narrow_field.specs.Field.{inverse_of};
 
 use super::modulo::{less, times};
-use super::{Answer, P};
+use super::P;
+use refusals::Refusal;
 
 // The inverse of a, which is no 0. Each remainder is a times its coefficient, modulo p.
 fn inverse_of(a: u32) -> u32
@@ -28,14 +30,14 @@ fn inverse_of(a: u32) -> u32
 }
 
 // The element that times a gives 1.
-pub fn inverse(a: u32) -> Answer
+pub fn inverse(a: u32) -> Result<u32, Refusal>
     ensures { said result ≡ inverse_of a }
 {
     if P <= a {
-        return Answer::Refused(5);
+        return Err(Refusal::NoElement);
     }
     if a == 0 {
-        return Answer::Refused(6);
+        return Err(Refusal::InverseOfZero);
     }
-    Answer::Given(inverse_of(a))
+    Ok(inverse_of(a))
 }

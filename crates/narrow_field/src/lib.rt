@@ -8,10 +8,3 @@ pub mod modulo;
 
 // The modulus, 2^31 - 1.
 pub const P: u32 = 2147483647;
-
-// What an operation answers: a value, or the number of a refusal.
-#[derive(Clone, Copy)]
-pub enum Answer {
-    Given(u32),
-    Refused(u32),
-}

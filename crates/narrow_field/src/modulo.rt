@@ -4,7 +4,7 @@ ghost use Rattle.arithmetic.specs.Modulo.{add, sub, neg, mul, pow};
 ghost use Rattle.narrow_field.specs.Narrow.{p};
 
 // The modulus as a u64.
-const P: u64 = 2147483647;
+const P: u64 = super::P as u64;
 
 // x as a u64.
 fn wide(x: u32) -> u64

@@ -3,5 +3,6 @@
 --   First    a list of refusals, each with its test; the first whose test holds is given
 --   Pinned   why a promise that is an equation has one answer
 pub mod Limits
+pub mod Said
 pub mod First
 pub mod Pinned

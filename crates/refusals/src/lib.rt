@@ -1,5 +1,9 @@
-// The limits of document 01, once for all code. What they mean, and the order of refusals, is in specs/.
+// The limits and the refusals of document 01, once for all code. What the limits mean, a refusal's number, and the order of refusals are in specs/.
 #![tactic(auto)]
+
+mod refusal;
+
+pub use refusal::Refusal;
 
 pub const MAX_VARS: u32 = 16;
 
