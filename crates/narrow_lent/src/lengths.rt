@@ -16,16 +16,7 @@ pub fn wide(x: u32) -> usize
 pub fn size(vars: u32) -> usize
     ensures { result ≡ 2 ^ min vars max_vars }
 {
-    let mut size: usize = 1;
-    let mut i: u32 = 0;
-    while i < vars {
-        if MAX_VARS <= i {
-            return size;
-        }
-        size = size * 2;
-        i += 1;
-    }
-    size
+    1 << vars.min(MAX_VARS)
 }
 
 // How many numbers the messages have.

@@ -1,7 +1,8 @@
-// What is lent to an entry over the narrow field (document 01): `lengths` says how long its lists must be, `judge` turns it down, `prover` judges all
-// that the prover is lent.
+// What is lent to an entry over the narrow field (document 01): `lengths` says how long its lists must be, `judge` turns it down, `tables` has the
+// tables of a list of the right length, `prover` judges all that the prover is lent.
 #![tactic(auto)]
 
 pub mod judge;
 pub mod lengths;
 pub mod prover;
+pub mod tables;

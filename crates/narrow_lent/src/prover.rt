@@ -1,13 +1,16 @@
 // What is lent to the prover, judged (document 01, "When a call is turned down"): 1, 2, 3, 4, 5 in that order. It takes every input.
 ghost use Rattle.std.specs.Prelude.{◌≡◌};
 ghost use Rattle.refusals.specs.First.{first};
+ghost use Rattle.refusals.specs.Said.{number_said};
 ghost use Rattle.sumcheck.specs.Entries.{prover_rules};
 ghost use Rattle.narrow_field.specs.Narrow.{p};
 
 use super::judge;
-use super::lengths::{messages_length, size, wide};
+use super::lengths::{messages_length, wide};
+use super::tables::Tables;
+use refusals::Refusal;
 
-// The number of the prover's refusal; 0 if none.
+// The prover's refusals.
 pub fn prover_refusal(
     vars: u32,
     degree: u32,
@@ -15,27 +18,21 @@ pub fn prover_refusal(
     challenges: &[u32],
     messages: &[u32],
     scratch: &[u32],
-) -> u32
-    ensures { result ≡ first (prover_rules p vars degree tables.now challenges.now messages.now scratch.now) }
+) -> Result<(), Refusal>
+    ensures { number_said result ≡ first (prover_rules p vars degree tables.now challenges.now messages.now scratch.now) }
 {
-    let lengths = judge::tables(vars, degree, tables.len());
-    if lengths != 0 {
-        return lengths;
-    }
+    let lent = Tables::lent(vars, degree, tables)?;
     if challenges.len() != wide(vars) {
-        return 3;
+        return Err(Refusal::WrongLength);
     }
     if messages.len() < messages_length(vars, degree) {
-        return 4;
+        return Err(Refusal::TooShort);
     }
     if scratch.len() < tables.len() {
-        return 4;
+        return Err(Refusal::TooShort);
     }
-    if judge::tables_outside(tables, wide(degree), size(vars)) {
-        return 5;
+    if lent.is_outside() || judge::is_outside(challenges) {
+        return Err(Refusal::NoElement);
     }
-    if judge::is_outside(challenges) {
-        return 5;
-    }
-    0
+    Ok(())
 }

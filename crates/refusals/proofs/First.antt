@@ -1,6 +1,6 @@
 -- How a list of refusals is decided, a rule at a time. Assumes nothing.
 use mathlib.Core.Path.{◌≡◌, refl, sym, ap, ◌∙◌}
-use mathlib.Core.Bool.{Bool, true, false}
+use mathlib.Core.Bool.{Bool, true, false, ◌||◌}
 use mathlib.Core.List.{List, [], ◌∷◌, ◌++◌}
 use Prim.Native.Nat.{ℕ, ◌≤◌, ◌<◌}
 use lib.Dec.{leb}
@@ -35,6 +35,11 @@ numbered number rules e = sym (choose-true number (first rules) e)
 
 pub unnumbered : (number : ℕ) {test : Bool} (rules : List Rule) → test ≡ false → first rules ≡ first ((number when test) ∷ rules)
 unnumbered number rules e = sym (choose-false number (first rules) e)
+
+-- either of two tests, as the code writes it
+pub either_or : (a b : Bool) → either a b ≡ (a || b)
+either_or true b = refl
+either_or false b = refl
 
 -- either of two tests
 pub either_left : {a : Bool} (b : Bool) → a ≡ true → either a b ≡ true

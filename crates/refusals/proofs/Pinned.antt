@@ -48,7 +48,7 @@ found_result (Ok x) = refl
 found_result (Err refusal) = found refusal
 
 -- no two results of nothing or a refusal have one number
-pub number_said_pins : Pins number_said
+pub number_said_pins : Pins (number_said {A = Unit {0}})
 number_said_pins r r' e = sym (found_result r) ∙ (ap at e ∙ found_result r')
 
 -- no two refusals have one number

@@ -27,6 +27,6 @@ said (Ok a) = given a
 said (Err refusal) = refused (number_of refusal)
 
 -- the number of a refusal alone; 0 if nothing is refused
-abbrev pub number_said : Result (Unit {0}) Refusal → ℕ
-number_said (Ok x) = 0
+abbrev pub number_said : {A : Type 0} → Result A Refusal → ℕ
+number_said (Ok a) = 0
 number_said (Err refusal) = number_of refusal

@@ -24,7 +24,7 @@ room k xs e = ltb-false (length xs) k e
 
 module _ (n vars degree : ℕ) (tables challenges messages scratch : List ℕ) where
   abbrev elements : List Rule
-  elements = 5 when outside n tables ∷ 5 when outside n challenges ∷ []
+  elements = 5 when either (outside n tables) (outside n challenges) ∷ []
 
   abbrev rooms : List Rule
   rooms = 4 when too_short (messages_length vars degree) messages ∷ 4 when too_short (tables_length vars degree) scratch ∷ elements
@@ -45,7 +45,7 @@ module _ (n vars degree : ℕ) (tables challenges messages scratch : List ℕ) w
       (first_either 4 (too_short (messages_length vars degree) messages) (too_short (tables_length vars degree) scratch)
       (5 when outside n (tables ++ challenges) ∷ [])
       ∙ ap (λ (k : ℕ). choose (too_short (messages_length vars degree) messages) 4 (choose (too_short (tables_length vars degree) scratch) 4 k))
-      (ap (λ (o : Bool). first (5 when o ∷ [])) (outside-append n tables challenges) ∙ first_either 5 (outside n tables) (outside n challenges) []))))
+      (ap (λ (o : Bool). first (5 when o ∷ [])) (outside-append n tables challenges)))))
     where
       short : Bool
       short = either (too_short (messages_length vars degree) messages) (too_short (tables_length vars degree) scratch)
@@ -84,14 +84,11 @@ module _ (n vars degree : ℕ) (tables challenges messages scratch : List ℕ) w
           past_scratch : first elements ≡ number
           past_scratch = unnumbered 4 elements (le-ltb (length scratch) (tables_length vars degree) (omega (arith, long))) ∙ past_messages
 
-          pub prover_outside : outside n tables ≡ true → 5 ≡ number
-          prover_outside h = numbered 5 (5 when outside n challenges ∷ []) h ∙ past_scratch
+          pub prover_element : either (outside n tables) (outside n challenges) ≡ true → 5 ≡ number
+          prover_element h = numbered 5 [] h ∙ past_scratch
 
-          pub prover_challenges : outside n tables ≡ false → outside n challenges ≡ true → 5 ≡ number
-          prover_challenges g h = numbered 5 [] h ∙ (unnumbered 5 (5 when outside n challenges ∷ []) g ∙ past_scratch)
-
-          pub prover_none : outside n tables ≡ false → outside n challenges ≡ false → 0 ≡ number
-          prover_none g h = unnumbered 5 [] h ∙ (unnumbered 5 (5 when outside n challenges ∷ []) g ∙ past_scratch)
+          pub prover_none : either (outside n tables) (outside n challenges) ≡ false → 0 ≡ number
+          prover_none h = unnumbered 5 [] h ∙ past_scratch
 
 -- what the prover knows that was not refused
 pub record ProverLent (vars degree : ℕ) (tables challenges messages scratch : List ℕ) : Type 0 where

@@ -1,8 +1,10 @@
--- `narrow_lent::judge::is_outside` meets its contract: the search ends before the list does. Assumes nothing.
-use Rattle.std.proofs.Common.{ℕ, length, nat_lt, ap, ◌∙◌}
-use Rattle.sumcheck.proofs.Search.{outside_search}
+-- `narrow_lent::judge::is_outside` meets its contract: the list is searched as `outside` searches it. Assumes nothing.
+use Rattle.std.proofs.Common.{refl, rules, leb}
+use Rattle.std.proofs.lemmas.List.Recursion.{or_is}
+use Rattle.refusals.specs.First.{outside}
+use Rattle.refusals.proofs.First.{either_or}
 use Rattle.narrow_field.specs.Narrow.{p}
 use Rattle.narrow_lent.proofs.judge.is_outside.Goals as goal
 
 pub returns : goal.returns
-returns c = ap (λ (i : ℕ). nat_lt i (length c.args.list.now)) c.first_outside.ensures ∙ outside_search p c.args.list.now
+returns c = or_is (outside p) (leb p) refl (λ x xs. either_or (leb p x) (outside p xs)) c.args.list.now 0 _ (search rules) (search rules)
