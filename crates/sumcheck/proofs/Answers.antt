@@ -101,16 +101,15 @@ placed vars degree long s h e = record { places = right; whole = tables_right va
 
 -- the refusals of the value at a point, one test at a time
 abbrev pub value_rest : ℕ → ℕ → List ℕ → List ℕ → List Rule
-value_rest n vars tables point = 3 when not_long vars point ∷ 5 when outside n tables ∷ 5 when outside n point ∷ []
+value_rest n vars tables point = 3 when not_long vars point ∷ 5 when either (outside n tables) (outside n point) ∷ []
 
 pub value_rules_lem : (n vars degree : ℕ) (tables point : List ℕ)
     → decide (tables_rules vars degree (length tables) ++ value_rest n vars tables point)
     (f n (tables_of vars degree tables) point) ≡ value_answer n vars degree tables point
 value_rules_lem n vars degree tables point =
     ap (λ (r : Answer ℕ). choose (bad_vars vars) (refused 1) (choose (bad_degree degree) (refused 2) r))
-    (sym (decide-either 3 a b (5 when outside n tables ∷ 5 when outside n point ∷ []) v)
-    ∙ ap (λ (r : Answer ℕ). choose (either a b) (refused 3) r)
-    (sym (decide-either 5 (outside n tables) (outside n point) [] v) ∙ ap (λ (o : Bool). decide (5 when o ∷ []) v) (sym (outside-append n tables point))))
+    (sym (decide-either 3 a b (5 when either (outside n tables) (outside n point) ∷ []) v)
+    ∙ ap (λ (o : Bool). choose (either a b) (refused 3) (decide (5 when o ∷ []) v)) (sym (outside-append n tables point)))
   where
     a : Bool
     a = not_long (tables_length vars degree) tables
@@ -152,22 +151,22 @@ module _ (n vars degree : ℕ) (tables point : List ℕ) where
     beyond = sym (decide_rest head (value_rest n vars tables point) value (tables_numbers vars degree (length tables)) z)
         ∙ value_rules_lem n vars degree tables point
 
+    abbrev elements : List Rule
+    elements = 5 when either (outside n tables) (outside n point) ∷ []
+
     pub value_long : (length point ≡ vars → ⊥) → refused 3 ≡ value_answer n vars degree tables point
-    value_long h = turned 3 (5 when outside n tables ∷ 5 when outside n point ∷ []) value (ap not (ne_eqb (length point) vars h)) ∙ beyond
+    value_long h = turned 3 elements value (ap not (ne_eqb (length point) vars h)) ∙ beyond
 
     module _ (l : length point ≡ vars) where
-      later : decide (5 when outside n tables ∷ 5 when outside n point ∷ []) value ≡ value_answer n vars degree tables point
-      later = passed 3 (5 when outside n tables ∷ 5 when outside n point ∷ []) value (ap not (eq-eqb (length point) vars l)) ∙ beyond
+      later : decide elements value ≡ value_answer n vars degree tables point
+      later = passed 3 elements value (ap not (eq-eqb (length point) vars l)) ∙ beyond
 
-      pub value-outside : outside n tables ≡ true → refused 5 ≡ value_answer n vars degree tables point
-      value-outside h = turned 5 (5 when outside n point ∷ []) value h ∙ later
+      pub value_element : either (outside n tables) (outside n point) ≡ true → refused 5 ≡ value_answer n vars degree tables point
+      value_element h = turned 5 [] value h ∙ later
 
-      pub value_point : outside n tables ≡ false → outside n point ≡ true → refused 5 ≡ value_answer n vars degree tables point
-      value_point g h = turned 5 [] value h ∙ (passed 5 (5 when outside n point ∷ []) value g ∙ later)
-
-      pub value-given : outside n tables ≡ false → outside n point ≡ false
+      pub value-given : either (outside n tables) (outside n point) ≡ false
           → given (f n (tables_of vars degree tables) point) ≡ value_answer n vars degree tables point
-      value-given g h = passed 5 [] value h ∙ (passed 5 (5 when outside n point ∷ []) value g ∙ later)
+      value-given h = passed 5 [] value h ∙ later
 
   -- and the lengths alone
   pub lengths_tables : (first head ≡ 0 → ⊥) → lengths_refusal vars degree tables point ≡ 0 → ⊥

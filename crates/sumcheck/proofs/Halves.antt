@@ -1,12 +1,12 @@
 -- An extension by halves of its table, and sums and products over tables by the places of a lent list. Assumes nothing.
 use mathlib.Core.Path.{◌≡◌, refl, sym, ap, ap₂, ◌∙◌}
 use mathlib.Core.List.{List, [], ◌∷◌, map}
-use Prim.Native.Nat.{ℕ, zero, suc, ◌+◌, ◌-◌, ◌^◌, ◌/◌, ◌%◌, ◌<◌}
-use native.Mathlib.Nat.{sub-zero, two-pow-succ}
+use Prim.Native.Nat.{ℕ, zero, suc, ◌+◌, ◌^◌, ◌/◌, ◌%◌, ◌<◌}
+use native.Mathlib.Nat.{two-pow-succ}
 use native.Mathlib.Numerals.{add-one}
 use native.Mathlib.Omega.{arith}
-use lib.ListN.{length, get_or, take, drop, length-take, length-drop}
-use lib.Seq.{get_or-take, get_or-drop, take_all}
+use lib.ListN.{length, get_or, take, drop}
+use lib.Seq.{get_or-take, get_or-drop}
 use Rattle.arithmetic.specs.Modulo.{mul}
 use Rattle.arithmetic.proofs.Modulo.{mul_mod_left}
 use Rattle.polynomial.specs.Elements.{Every, sum, product, count_from}
@@ -80,61 +80,11 @@ pub single : (n : ℕ) → 0 < n → (t point : List ℕ) → length point ≡ 0
 single n h t [] e = sym (extension_corner n h t [] tt)
 single n h t (x ∷ r) e = absurd (omega arith)
 
--- a table and a point as a recursion takes them apart: the point without its first place, the table's halves
-module _ (t point : List ℕ) (e : length t ≡ 2 ^ length point) (some : length point ≡ 0 → ⊥) where
-  abbrev rest : List ℕ
-  rest = take (length point - 1) (drop 1 point)
-
-  rest_cons : (r : List ℕ) (x : ℕ) → take (length (x ∷ r) - 1) (drop 1 (x ∷ r)) ≡ r
-  rest_cons r x = take_all (length (x ∷ r) - 1) r (omega arith)
-
-  pub rest_length : length rest + 1 ≡ length point
-  rest_length = go point some
-    where
-      go : (q : List ℕ) → (length q ≡ 0 → ⊥) → length (take (length q - 1) (drop 1 q)) + 1 ≡ length q
-      go [] h = absurd (h refl)
-      go (x ∷ r) h = omega (arith, ap length (rest_cons r x))
-
-  pub half_length : length t / 2 ≡ 2 ^ length rest
-  half_length = omega (arith, e, ap (λ (l : ℕ). 2 ^ l) (sym rest_length ∙ add-one (length rest)), two-pow-succ (length rest))
-
-  pub low_length : length (take (length t / 2 - 0) t) ≡ 2 ^ length rest
-  low_length = omega (arith, length-take (length t / 2 - 0) t, half_length)
-
-  pub high_length : length (take (length t - length t / 2) (drop (length t / 2) t)) ≡ 2 ^ length rest
-  high_length =
-      omega (
-        arith,
-        length-take (length t - length t / 2) (drop (length t / 2) t),
-        length-drop (length t / 2) t,
-        half_length,
-        e,
-        ap (λ (l : ℕ). 2 ^ l)
-            (sym rest_length ∙ add-one (length rest)),
-        two-pow-succ (length rest),
-      )
-
-  -- the extension is the point between those of the halves
-  pub by_halves : (n : ℕ) → 0 < n
-      → between n (get_or point 0 0) (extension n (take (length t / 2 - 0) t) rest)
-      (extension n (take (length t - length t / 2) (drop (length t / 2) t)) rest) ≡ extension n t point
-  by_halves n h = go point e some
-    where
-      go : (q : List ℕ) → length t ≡ 2 ^ length q → (length q ≡ 0 → ⊥)
-          → between n (get_or q 0 0) (extension n (take (length t / 2 - 0) t) (take (length q - 1) (drop 1 q)))
-          (extension n (take (length t - length t / 2) (drop (length t / 2) t)) (take (length q - 1) (drop 1 q))) ≡ extension n t q
-      go [] l s = absurd (s refl)
-      go (x ∷ r) l s =
-          ap₂ (λ (u v : List ℕ). between n x (extension n u (take (length (x ∷ r) - 1) (drop 1 (x ∷ r))))
-          (extension n v (take (length (x ∷ r) - 1) (drop 1 (x ∷ r))))) low high
-          ∙ (ap (λ (q : List ℕ). between n x (extension n (take (2 ^ length r) t) q) (extension n (drop (2 ^ length r) t) q)) (rest_cons r x)
-          ∙ sym (extension-halves n h x t r))
-        where
-          half : length t / 2 ≡ 2 ^ length r
-          half = omega (arith, l, two-pow-succ (length r))
-
-          low : take (length t / 2 - 0) t ≡ take (2 ^ length r) t
-          low = ap (λ (i : ℕ). take i t) (sub-zero (length t / 2) ∙ half)
-
-          high : take (length t - length t / 2) (drop (length t / 2) t) ≡ drop (2 ^ length r) t
-          high = take_all (length t - length t / 2) (drop (length t / 2) t) (omega (arith, length-drop (length t / 2) t)) ∙ ap (λ (i : ℕ). drop i t) half
+-- the same of a table that is cut in half: the extension is the point between those of the halves
+pub by_halves : (n : ℕ) → 0 < n → (x : ℕ) (t r : List ℕ) → length t ≡ 2 ^ (length r + 1)
+    → between n x (extension n (take (length t / 2) t) r) (extension n (drop (length t / 2) t) r) ≡ extension n t (x ∷ r)
+by_halves n h x t r e =
+    ap (λ (i : ℕ). between n x (extension n (take i t) r) (extension n (drop i t) r)) half ∙ sym (extension-halves n h x t r)
+  where
+    half : length t / 2 ≡ 2 ^ length r
+    half = omega (arith, e, ap (λ (l : ℕ). 2 ^ l) (add-one (length r)), two-pow-succ (length r))

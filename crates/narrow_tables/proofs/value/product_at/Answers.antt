@@ -1,32 +1,22 @@
--- `narrow_tables::value::product_at` meets its contract: what is done times the product of the parts that are left is the whole product. Assumes nothing.
-use Rattle.std.proofs.Common.{ℕ, ◌+◌, ◌-◌, List, ap, ◌∙◌}
-use native.Mathlib.Omega.{arith}
+-- `narrow_tables::value::product_at` meets its contract: one table more is one factor more. Assumes nothing.
+use Rattle.std.proofs.Common.{ℕ, ◌*◌, List, sym, ap, ap₂, ◌∙◌}
 use Rattle.arithmetic.specs.Modulo.{mul}
 use Rattle.sumcheck.specs.Extension.{extension}
-use Rattle.sumcheck.proofs.Parts.{product_left, product_start, product-step, product-end, one_part, part_of}
+use Rattle.sumcheck.proofs.Parts.{product_none, product_more, part_of}
 use Rattle.narrow_field.specs.Narrow.{p}
 use Rattle.narrow_tables.proofs.value.product_at.Goals as goal
 
-pub loop-left-init : goal.loop-left-init
-loop-left-init c =
-    let at = c.args in
-    (omega (arith, c.requires.1), omega arith, product_start p (λ (t : List ℕ). extension p t at.point.now) at.places at.count at.tables.now)
+pub loop-table-init : goal.loop-table-init
+loop-table-init c =
+    let point = c.args.point.now in
+    product_none p (λ (t : List ℕ). extension p t point) c.args.tables.places c.args.tables.numbers.now
 
-pub loop-left-preserved : goal.loop-left-preserved
-loop-left-preserved c =
-    let at = c.args in
-    let loop = c.loop-left in
-    let value : List ℕ → ℕ = λ t. extension p t at.point.now in (
-      omega (arith, loop.invariant.0, one_part loop.left at.places c.loop-left-test.true),
-      omega (arith, c.times-value.ensures),
-      ap (λ (v : ℕ). product_left p value at.places v (loop.left - 1) (loop.start + at.places) at.tables.now)
-          (c.times-value.ensures ∙ ap (mul p loop.value) (c.extension_at.ensures ∙ ap value (part_of loop.start at.places at.tables.now)))
-          ∙ (product-step p value at.places loop.value loop.left loop.start at.tables.now c.loop-left-test.true ∙ loop.invariant.2),
-    )
-
-pub returns : goal.returns
-returns c =
-    let at = c.args in
-    let loop = c.loop-left in
-    product-end p (λ (t : List ℕ). extension p t at.point.now) at.places loop.value loop.left loop.start at.tables.now c.loop-left-test.false loop.invariant.1
-    ∙ loop.invariant.2
+pub loop-table-preserved : goal.loop-table-preserved
+loop-table-preserved c =
+    let value : List ℕ → ℕ = λ t. extension p t c.args.point.now in
+    let places = c.args.tables.places in
+    let numbers = c.args.tables.numbers.now in
+    let table = c.loop-table.table in
+    c.times-value.ensures
+    ∙ ap₂ (mul p) c.loop-table.invariant (c.extension_at.ensures ∙ ap value (part_of (table * places) places numbers))
+    ∙ sym (product_more p value places table numbers)

@@ -1,0 +1,3 @@
+-- What is lent to an entry over the narrow field.
+--   Tables   the tables of a lent list
+pub mod Tables
