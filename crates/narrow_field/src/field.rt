@@ -5,8 +5,8 @@ ghost use Rattle.refusals.specs.Said.{said};
 ghost use Rattle.narrow_field.specs.Narrow.{p};
 ghost use Rattle.narrow_field.specs.Field.{sum_of, difference_of, negative_of, product_of, power_of};
 
-use super::modulo::{less, minus, plus, times, to_power};
 use super::P;
+use super::modulo::{less, minus, plus, times, to_power};
 use refusals::Refusal;
 
 // Whether x is no element.

@@ -5,8 +5,8 @@ ghost use Rattle.narrow_field.specs.Narrow.{p};
 ghost use Rattle.refusals.specs.Said.{said};
 ghost use Rattle.narrow_field.specs.Field.{inverse_of};
 
-use super::modulo::{less, times};
 use super::P;
+use super::modulo::{less, times};
 use refusals::Refusal;
 
 // The inverse of a, which is no 0. Each remainder is a times its coefficient, modulo p.

@@ -6,13 +6,6 @@ ghost use Rattle.narrow_field.specs.Narrow.{p};
 // The modulus as a u64.
 const P: u64 = super::P as u64;
 
-// x as a u64.
-fn wide(x: u32) -> u64
-    ensures { result ≡ x }
-{
-    x as u64
-}
-
 // x modulo p.
 fn reduced(x: u64) -> u32
     ensures { result ≡ x % p }
@@ -24,14 +17,14 @@ fn reduced(x: u64) -> u32
 pub fn plus(a: u32, b: u32) -> u32
     ensures { result ≡ add p a b }
 {
-    reduced(wide(a) + wide(b))
+    reduced(u64::from(a) + u64::from(b))
 }
 
 // -a modulo p.
 pub fn minus(a: u32) -> u32
     ensures { result ≡ neg p a }
 {
-    reduced(P - wide(a) % P)
+    reduced(P - u64::from(a) % P)
 }
 
 // a - b modulo p.
@@ -45,7 +38,7 @@ pub fn less(a: u32, b: u32) -> u32
 pub fn times_plus(a: u32, b: u32, c: u32) -> u32
     ensures { result ≡ (a * b + c) % p }
 {
-    reduced(wide(a) * wide(b) + wide(c))
+    reduced(u64::from(a) * u64::from(b) + u64::from(c))
 }
 
 // a · b modulo p.
