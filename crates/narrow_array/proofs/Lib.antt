@@ -1,3 +1,3 @@
--- The laws of arrays of four.
---   Four   a list of four, place by place
-pub mod Four
+-- The laws of arrays of coefficients.
+--   Horner   the value of a polynomial, from the top coefficient down
+pub mod Horner

@@ -5,10 +5,12 @@ ghost use Rattle.polynomial.specs.Polynomial.{plus as plus_of};
 ghost use Rattle.polynomial.specs.Array.{line_times};
 ghost use Rattle.narrow_field.specs.Narrow.{p};
 
+use crate::round::COEFFICIENTS;
 use narrow_field::modulo::{less, plus, times};
+use std::array;
 
 // The line with the values low at 0 and high at 1, times a polynomial; what goes past the array is cut off.
-pub fn line_times(c: [u32; 4], low: u32, high: u32) -> [u32; 4]
+pub fn line_times(c: [u32; COEFFICIENTS], low: u32, high: u32) -> [u32; COEFFICIENTS]
     ensures { result ≡ line_times p low (sub p high low) 0 c }
 {
     let slope = less(high, low);
@@ -21,13 +23,8 @@ pub fn line_times(c: [u32; 4], low: u32, high: u32) -> [u32; 4]
 }
 
 // The sum of two polynomials.
-pub fn added(a: [u32; 4], b: [u32; 4]) -> [u32; 4]
+pub fn added(a: [u32; COEFFICIENTS], b: [u32; COEFFICIENTS]) -> [u32; COEFFICIENTS]
     ensures { result ≡ plus_of p a b }
 {
-    [
-        plus(a[0], b[0]),
-        plus(a[1], b[1]),
-        plus(a[2], b[2]),
-        plus(a[3], b[3]),
-    ]
+    array::from_fn(|i| plus(a[i], b[i]))
 }

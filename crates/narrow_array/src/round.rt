@@ -15,15 +15,9 @@ pub const COEFFICIENTS: usize = 4;
 pub fn coefficients(message: &[u32]) -> [u32; COEFFICIENTS]
     ensures { result ≡ padded (suc max_degree) message.now }
 {
+    let given = message.len().min(COEFFICIENTS);
     let mut c = [0u32; COEFFICIENTS];
-    let mut i: usize = 0;
-    while i < COEFFICIENTS {
-        if message.len() <= i {
-            return c;
-        }
-        c[i] = message[i];
-        i += 1;
-    }
+    c[..given].copy_from_slice(&message[..given]);
     c
 }
 
@@ -31,13 +25,7 @@ pub fn coefficients(message: &[u32]) -> [u32; COEFFICIENTS]
 pub fn value_at(c: [u32; COEFFICIENTS], x: u32) -> u32
     ensures { result ≡ value p c x }
 {
-    let mut v: u32 = 0;
-    let mut i: usize = COEFFICIENTS;
-    while 0 < i {
-        i -= 1;
-        v = times_plus(v, x, c[i]);
-    }
-    v
+    c.iter().rev().fold(0, |value, &k| times_plus(value, x, k))
 }
 
 // Whether s(0) + s(1) is the claim.

@@ -1,13 +1,12 @@
--- `narrow_array::round::value_at` meets its contract: the value so far is that of the coefficients from i on. Assumes nothing.
-use Rattle.std.proofs.Common.{◌∙◌}
-use native.Mathlib.Omega.{arith}
-use Rattle.polynomial.proofs.Array.{value_down}
+-- `narrow_array::round::value_at` meets its contract: it folds the coefficients by Horner's rule, the top one first. Assumes nothing.
+use Rattle.std.proofs.Common.{rules, ◌∙◌}
+use Rattle.std.proofs.lemmas.Iterator.Adapters.{YieldsList-from_rev_slice}
+use Rattle.std.proofs.lemmas.Iterator.Consumers.{fold_from_yields_List}
 use Rattle.narrow_field.specs.Narrow.{p}
+use Rattle.narrow_array.proofs.Horner.{below, horner}
 use Rattle.narrow_array.proofs.round.value_at.Goals as goal
 
-pub loop-i-preserved : goal.loop-i-preserved
-loop-i-preserved c =
-    let at = c.loop-i in (
-      omega arith,
-      c.times_plus-v.ensures ∙ value_down p c.args.c c.args.x at.i at.v (omega arith) at.invariant.0 at.invariant.1,
-    )
+pub returns : goal.returns
+returns c =
+    fold_from_yields_List _ (below p c.args.x) 0 _ c.fold.ensures.ran (YieldsList-from_rev_slice c.args.c cc) (λ v k r q h. search rules)
+    ∙ horner p c.args.c c.args.x
