@@ -14,12 +14,9 @@ pub fn line_times(c: [u32; COEFFICIENTS], low: u32, high: u32) -> [u32; COEFFICI
     ensures { result ≡ line_times p low (sub p high low) 0 c }
 {
     let slope = less(high, low);
-    [
-        plus(times(low, c[0]), times(slope, 0)),
-        plus(times(low, c[1]), times(slope, c[0])),
-        plus(times(low, c[2]), times(slope, c[1])),
-        plus(times(low, c[3]), times(slope, c[2])),
-    ]
+    // The polynomial times X.
+    let raised = [0, c[0], c[1], c[2]];
+    array::from_fn(|i| plus(times(low, c[i]), times(slope, raised[i])))
 }
 
 // The sum of two polynomials.
