@@ -6,31 +6,28 @@ ghost use Rattle.sumcheck.proofs.Laid.{laid};
 ghost use Rattle.sumcheck.proofs.FoldedParts.{folded_part};
 ghost use Rattle.narrow_field.specs.Narrow.{p};
 
+use crate::shape::Shape;
 use narrow_tables::value::point_between;
 
 // The lower half of a table becomes the table folded by r. This is the one folding step: whoever folds calls it.
-pub(crate) fn fold_table(table: &mut [u32], half: usize, r: u32)
+fn fold_table(table: &mut [u32], half: usize, r: u32)
     requires { half + half ≤ length table.old }
     ensures { table.new ≡ fold p r half table.old ++ drop half table.old }
 {
-    let mut i: usize = 0;
-    while i < half {
+    for i in 0..half {
         table[i] = point_between(r, table[i], table[half + i]);
-        i += 1;
     }
 }
 
-// So many tables of one size, each folded in its lower half.
-pub(crate) fn fold_tables(tables: &mut [u32], count: usize, places: usize, half: usize, r: u32)
-    requires { (half + half ≤ places) × (count * places ≤ length tables.old) }
-    ensures { tables.new ≡ laid places (map (folded_part p r half) (parts count places tables.old)) tables.old }
-{
-    let mut start: usize = 0;
-    let mut done: usize = 0;
-    while done < count {
-        let end = start + places;
-        fold_table(&mut tables[start..end], half, r);
-        start = end;
-        done += 1;
+impl Shape {
+    // Each table is folded in its lower half.
+    pub(crate) fn fold(self, tables: &mut [u32], r: u32)
+        requires { self.count * self.places ≤ length tables.old }
+        ensures { tables.new ≡ laid self.places (map (folded_part p r self.half) (parts self.count self.places tables.old)) tables.old }
+    {
+        for table in 0..self.count {
+            let start = table * self.places;
+            fold_table(&mut tables[start..start + self.places], self.half, r);
+        }
     }
 }

@@ -1,15 +1,8 @@
-// The prover over the narrow field (document 01, "What is offered"). `fold` has the folding of tables by a challenge, `round` a
-// round's polynomial, `memory` copying and clearing, `prove` the entry.
+// The prover over the narrow field (document 01, "What is offered"). `shape` says how tables lie while they are folded, `fold` has the folding of tables
+// by a challenge, `round` a round's polynomial, `prove` the entry.
 #![tactic(auto)]
 
-pub mod fold;
-pub mod memory;
+mod fold;
 pub mod prove;
-pub mod round;
-
-// What the prover answers: done, or the number of a refusal.
-#[derive(Clone, Copy)]
-pub enum Proof {
-    Done,
-    Refused(u32),
-}
+mod round;
+mod shape;

@@ -1,74 +1,58 @@
 // The prover (document 01, "What is offered"): refusals 1, 2, 3, 4, 5 in that order, and no lent place touched before all are passed; then a round's
 // polynomial after the other, each into its own part of the lent message list, the tables folded in scratch, and scratch cleared.
 ghost use Rattle.std.specs.Prelude.{◌≡◌, ◌++◌, map, ◌+◌, ◌*◌, ◌^◌, ◌≤◌, ◌<◌, length, drop, replicate};
+ghost use Rattle.refusals.specs.Limits.{max_degree};
+ghost use Rattle.refusals.specs.Said.{said};
 ghost use Rattle.sumcheck.specs.TruePolynomial.{true_polynomials};
 ghost use Rattle.sumcheck.specs.Lent.{parts, join};
 ghost use Rattle.sumcheck.specs.Entries.{prover_answer, messages_after, scratch_after};
 ghost use Rattle.sumcheck.proofs.FoldedParts.{folded_part};
 ghost use Rattle.sumcheck.proofs.Laid.{laid};
+ghost use Rattle.sumcheck.proofs.Progress.{Setting};
 ghost use Rattle.sumcheck.proofs.RoundFolded.{round_of};
 ghost use Rattle.narrow_field.specs.Narrow.{p};
-ghost use Rattle.narrow_prover.specs.Proved.{said};
+ghost use Rattle.narrow_lent.specs.Tables.{lists};
 
-use crate::Proof;
-use crate::fold::fold_tables;
-use crate::memory::{clear, copy, put};
-use crate::round::round;
-use narrow_lent::lengths::size;
+use crate::shape::Shape;
+use narrow_lent::lengths::{size, wide};
 use narrow_lent::prover::prover_refusal;
+use narrow_lent::tables::Tables;
+use refusals::Refusal;
 
-// One round: its polynomial is written to the front of its part of the message list, and the tables are folded by its challenge.
-fn write_round(
-    part: &mut [u32],
-    tables: &mut [u32],
-    count: usize,
-    places: usize,
-    half: usize,
-    r: u32,
-)
-    requires { (count ≤ 3) × (0 < half) × (half + half ≤ places) × (count * places ≤ length tables.old) × (count + 1 ≤ length part.old) }
-    ensures { (part.new ≡ round_of p half (parts count places tables.old) ++ drop (count + 1) part.old)
-        × (tables.new ≡ laid places (map (folded_part p r half) (parts count places tables.old)) tables.old) }
-{
-    let coefficients = round(tables, count, places, half);
-    put(part, coefficients, count + 1);
-    fold_tables(tables, count, places, half, r);
+impl Shape {
+    // One round: its polynomial is written to the front of its part of the message list, and the tables are folded by its challenge.
+    fn write_round(self, part: &mut [u32], tables: &mut [u32], r: u32)
+        requires { (0 < self.half) × (self.count * self.places ≤ length tables.old) × (self.count + 1 ≤ length part.old) }
+        ensures { (part.new ≡ round_of p self.half (parts self.count self.places tables.old) ++ drop (self.count + 1) part.old)
+            × (tables.new ≡ laid self.places (map (folded_part p r self.half) (parts self.count self.places tables.old)) tables.old) }
+    {
+        let coefficients = self.round(tables);
+        let given = self.count + 1;
+        part[..given].copy_from_slice(&coefficients[..given]);
+        self.fold(tables, r);
+    }
 }
 
 // All rounds, once nothing is refused.
-fn run(
-    tables: &[u32],
-    count: usize,
-    places: usize,
-    challenges: &[u32],
-    messages: &mut [u32],
-    scratch: &mut [u32],
-)
-    requires { (count ≤ 3) × (places ≡ 2 ^ length challenges.now) × (length tables.now ≡ count * places)
-        × (length challenges.now * (count + 1) ≤ length messages.old) × (count * places ≤ length scratch.old) }
-    ensures { (messages.new ≡ join (true_polynomials p (parts count places tables.now) challenges.now)
-        ++ drop (length challenges.now * (count + 1)) messages.old)
-        × (scratch.new ≡ replicate (count * places) 0 ++ drop (count * places) scratch.old) }
+fn run(lent: Tables, challenges: &[u32], messages: &mut [u32], scratch: &mut [u32])
+    requires { (lent.count ≤ max_degree) × Setting p lent.count lent.places lent.numbers.now challenges.now messages.old scratch.old }
+    ensures { let t = lent.entry in
+        (messages.new ≡ join (true_polynomials p (lists t) challenges.now) ++ drop (length challenges.now * (t.count + 1)) messages.old)
+        × (scratch.new ≡ replicate (t.count * t.places) 0 ++ drop (t.count * t.places) scratch.old) }
 {
-    copy(tables, scratch);
-    let mut size = places;
-    let mut start: usize = 0;
-    let mut j: usize = 0;
-    while j < challenges.len() {
-        let half = size / 2;
-        write_round(
-            &mut messages[start..],
-            scratch,
-            count,
-            places,
-            half,
-            challenges[j],
-        );
-        size = half;
-        start = start + (count + 1);
-        j += 1;
+    scratch[..lent.numbers.len()].copy_from_slice(lent.numbers);
+    let mut size = lent.places;
+    for (j, &r) in challenges.iter().enumerate() {
+        let start = j * (lent.count + 1);
+        size /= 2;
+        let shape = Shape {
+            count: lent.count,
+            places: lent.places,
+            half: size,
+        };
+        shape.write_round(&mut messages[start..], scratch, r);
     }
-    clear(scratch, tables.len());
+    scratch[..lent.numbers.len()].fill(0);
 }
 
 // The prover.
@@ -79,22 +63,17 @@ pub fn prove(
     challenges: &[u32],
     messages: &mut [u32],
     scratch: &mut [u32],
-) -> Proof
+) -> Result<(), Refusal>
     ensures { (said result ≡ prover_answer p vars degree tables.now challenges.now messages.old scratch.old)
         × ((messages.new ≡ messages_after p vars degree tables.now challenges.now messages.old scratch.old)
         × (scratch.new ≡ scratch_after p vars degree tables.now challenges.now messages.old scratch.old)) }
 {
-    let number = prover_refusal(vars, degree, tables, challenges, messages, scratch);
-    if number != 0 {
-        return Proof::Refused(number);
-    }
-    run(
-        tables,
-        degree as usize,
-        size(vars),
-        challenges,
-        messages,
-        scratch,
-    );
-    Proof::Done
+    prover_refusal(vars, degree, tables, challenges, messages, scratch)?;
+    let lent = Tables {
+        numbers: tables,
+        count: wide(degree),
+        places: size(vars),
+    };
+    run(lent, challenges, messages, scratch);
+    Ok(())
 }

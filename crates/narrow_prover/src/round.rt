@@ -1,40 +1,43 @@
 // A round's polynomial from the folded tables: the sum over the places of the product of the tables' lines.
 ghost use Rattle.std.specs.Prelude.{◌≡◌, ◌++◌, map, ◌+◌, ◌-◌, ◌*◌, ◌≤◌, ◌<◌, length, replicate};
+ghost use Rattle.refusals.specs.Limits.{max_degree};
 ghost use Rattle.polynomial.proofs.Padded.{total};
 ghost use Rattle.polynomial.specs.Elements.{count_from};
 ghost use Rattle.sumcheck.specs.Lent.{parts};
 ghost use Rattle.sumcheck.proofs.RoundFolded.{term_at};
 ghost use Rattle.narrow_field.specs.Narrow.{p};
 
+use crate::shape::Shape;
 use narrow_array::array::{added, line_times};
+use narrow_array::round::COEFFICIENTS;
 
-// The product of the tables' lines at place i.
-pub(crate) fn term(tables: &[u32], count: usize, places: usize, half: usize, i: usize) -> [u32; 4]
-    requires { (count ≤ 3) × (i < half) × (half + half ≤ places) × (count * places ≤ length tables.now) }
-    ensures { result ≡ term_at p half (parts count places tables.now) i ++ replicate (3 - count) 0 }
-{
-    let mut product: [u32; 4] = [1, 0, 0, 0];
-    let mut left = count;
-    while left != 0 {
-        left -= 1;
-        let low = left * places + i;
-        let next = line_times(product, tables[low], tables[low + half]);
-        product = next;
+impl Shape {
+    // The product of the tables' lines at place i.
+    fn term(self, tables: &[u32], i: usize) -> [u32; COEFFICIENTS]
+        requires { (i < self.half) × (self.count * self.places ≤ length tables.now) }
+        ensures { result ≡ term_at p self.half (parts self.count self.places tables.now) i ++ replicate (max_degree - self.count) 0 }
+    {
+        let mut product: [u32; COEFFICIENTS] = [1, 0, 0, 0];
+        for table in (0..self.count).rev() {
+            let low = table * self.places + i;
+            // Through `next`: what a call gives is not laid straight over an array.
+            let next = line_times(product, tables[low], tables[low + self.half]);
+            product = next;
+        }
+        product
     }
-    product
-}
 
-// The sum of those products over the places of the lower half.
-pub(crate) fn round(tables: &[u32], count: usize, places: usize, half: usize) -> [u32; 4]
-    requires { (count ≤ 3) × (half + half ≤ places) × (count * places ≤ length tables.now) }
-    ensures { result ≡ total p (count + 1) (map (term_at p half (parts count places tables.now)) (count_from 0 half)) ++ replicate (3 - count) 0 }
-{
-    let mut sum: [u32; 4] = [0, 0, 0, 0];
-    let mut i = half;
-    while i != 0 {
-        i -= 1;
-        let next = added(term(tables, count, places, half, i), sum);
-        sum = next;
+    // The sum of those products over the places of the lower half.
+    pub(crate) fn round(self, tables: &[u32]) -> [u32; COEFFICIENTS]
+        requires { self.count * self.places ≤ length tables.now }
+        ensures { result ≡ total p (self.count + 1) (map (term_at p self.half (parts self.count self.places tables.now)) (count_from 0 self.half))
+            ++ replicate (max_degree - self.count) 0 }
+    {
+        let mut sum = [0; COEFFICIENTS];
+        for i in (0..self.half).rev() {
+            let next = added(self.term(tables, i), sum);
+            sum = next;
+        }
+        sum
     }
-    sum
 }

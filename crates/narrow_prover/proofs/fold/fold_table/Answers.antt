@@ -8,16 +8,13 @@ use Rattle.narrow_prover.proofs.fold.fold_table.Invariants.{at_last}
 use Rattle.narrow_prover.proofs.fold.fold_table.Goals as goal
 
 pub loop-i-init : goal.loop-i-init
-loop-i-init c = (omega arith, written_none (at_last c.args.r c.args.half c.args.table.now) c.args.table.now)
+loop-i-init c = written_none (at_last c.args.r c.args.half c.args.table.now) c.args.table.now
 
 pub loop-i-preserved : goal.loop-i-preserved
 loop-i-preserved c =
     let a = c.args in
     let table = c.args.table.now in
     let at = c.loop-i in
-    let as_it_was = λ (j : ℕ) (h : c.loop-i.i ≤ j).
-    ap (λ (xs : List ℕ). get_or xs j 0) at.invariant.1 ∙ written_at (at_last a.r a.half table) at.i table j h in (
-      omega arith,
-      written_next (at_last a.r a.half table) at.i table at.table c.point_between.result at.invariant.1 (omega arith)
-          (c.point_between.ensures ∙ ap₂ (between p a.r) (as_it_was at.i (omega arith)) (as_it_was (a.half + at.i) (omega arith))),
-    )
+    let as_it_was = λ (j : ℕ) (h : c.loop-i.i ≤ j). ap (λ (xs : List ℕ). get_or xs j 0) at.invariant ∙ written_at (at_last a.r a.half table) at.i table j h in
+    written_next (at_last a.r a.half table) at.i table at.table c.point_between.result at.invariant (omega arith)
+    (c.point_between.ensures ∙ ap₂ (between p a.r) (as_it_was at.i (omega arith)) (as_it_was (a.half + at.i) (omega arith)))
