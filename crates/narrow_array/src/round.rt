@@ -7,6 +7,7 @@ ghost use Rattle.sumcheck.specs.Protocol.{fits};
 ghost use Rattle.narrow_field.specs.Narrow.{p};
 
 use narrow_field::modulo::{plus, times_plus};
+use std::array;
 
 // As many coefficients as the largest degree has.
 pub const COEFFICIENTS: usize = 4;
@@ -15,10 +16,7 @@ pub const COEFFICIENTS: usize = 4;
 pub fn coefficients(message: &[u32]) -> [u32; COEFFICIENTS]
     ensures { result ≡ padded (suc max_degree) message.now }
 {
-    let given = message.len().min(COEFFICIENTS);
-    let mut c = [0u32; COEFFICIENTS];
-    c[..given].copy_from_slice(&message[..given]);
-    c
+    array::from_fn(|i| message.get(i).copied().unwrap_or(0))
 }
 
 // The value at x, by Horner's rule from the top.
