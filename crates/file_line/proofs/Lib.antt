@@ -1,5 +1,5 @@
 -- The laws behind the reader of one line.
---   Paths     each inner function's answers, one law for each path through its code
+--   Paths     what the machine's steps come to, one law for each path
 --   Machine   the machine that reads a line, one byte after another
 --   Verdict   the machine over numbers
 --   Words     the machine over a whole line comes to what the layout says

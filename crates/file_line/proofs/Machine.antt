@@ -4,55 +4,45 @@ use mathlib.Core.Path.{◌≡◌, refl, sym, ap, ◌∙◌}
 use mathlib.Core.Bool.{Bool, true, false}
 use mathlib.Core.List.{List, [], ◌∷◌}
 use Prim.Native.Nat.{ℕ, ◌-◌}
-use native.Mathlib.Omega.{arith}
 use lib.ListN.{length}
 use lib.Dec.{eqb}
 use borrow.Author.Tests.{ne_eqb, eq-eqb}
 use Rattle.layout.specs.Bytes.{class_of, Cut, ended, unended, longer, first_line}
 use Rattle.layout.specs.Bytes as bytes
-use Rattle.layout.proofs.Classes.{means, Means}
+use Rattle.layout.proofs.Classes.{means, class_line_end}
 use Rattle.file_line.specs.declared.line.Wanted.{Wanted}
 use Rattle.file_line.specs.declared.state.State.{State}
 use Rattle.file_line.specs.declared.state.State.TheVariants.{Bad}
 use Rattle.file_line.specs.OneLine.{Brief, stopped}
-use Rattle.file_line.specs.Steps.{is_end, step_of, closed_of, run_of}
+use Rattle.file_line.specs.Steps.{step_of, closed_of, run_of}
 
--- a byte ends a line if and only if it is byte 10
-pub end_test : (b : ℕ) → is_end (class_of b) ≡ eqb b 10
-end_test b = go (class_of b) (means b)
-  where
-    go : (k : bytes.Class) → Means k b → is_end k ≡ eqb b 10
-    go bytes.digit h = sym (ne_eqb b 10 (λ e. omega arith))
-    go bytes.comma h = sym (ne_eqb b 10 (λ e. omega arith))
-    go bytes.equals h = sym (ne_eqb b 10 (λ e. omega arith))
-    go bytes.line_end h = sym (eq-eqb b 10 h)
-    go bytes.letter h = sym (ne_eqb b 10 (λ e. omega arith))
-    go bytes.other h = sym (ne_eqb b 10 h.3)
+-- a byte is in the class of line ends if and only if it is byte 10
+pub ends_line : (b : ℕ) → class_of b ≡ bytes.line_end → eqb b 10 ≡ true
+ends_line b e = eq-eqb b 10 (rw e at (means b))
 
--- so the code's test of the class is a test of the byte
-pub end-told : (b : ℕ) (k : bytes.Class) (r t : Bool) → k ≡ class_of b → r ≡ is_end k → r ≡ t → eqb b 10 ≡ t
-end-told b k r t e f g = sym (end_test b) ∙ (ap is_end (sym e) ∙ (sym f ∙ g))
+pub goes_on : (b : ℕ) → (class_of b ≡ bytes.line_end → ⊥) → eqb b 10 ≡ false
+goes_on b h = ne_eqb b 10 (λ e. h (class_line_end b e))
 
 module _ (w : Wanted) (word : List ℕ) where
   -- the machine's steps over a text
   abbrev pub steps_of : State → List ℕ → State
   steps_of state [] = state
-  steps_of state (b ∷ text) = steps_of (step_of w word b state) text
+  steps_of state (b ∷ text) = steps_of (step_of w word b (class_of b) state) text
 
   -- on the last bytes of so many, cut at the line end
   abbrev pub on_cut : ℕ → State → Cut → Brief
   on_cut size state (ended text rest) = closed_of w (steps_of state text) (size - length rest)
   on_cut size state (unended text) = stopped 10 w.line
 
-  on_longer : (size : ℕ) (state : State) (b : ℕ) (cut : Cut) → on_cut size (step_of w word b state) cut ≡ on_cut size state (longer b cut)
+  on_longer : (size : ℕ) (state : State) (b : ℕ) (cut : Cut) → on_cut size (step_of w word b (class_of b) state) cut ≡ on_cut size state (longer b cut)
   on_longer size state b (ended text rest) = refl
   on_longer size state b (unended text) = refl
 
   pub ran : (size : ℕ) (state : State) (s : List ℕ) → run_of size w word state s ≡ on_cut size state (first_line s)
   ran size state [] = refl
-  ran size state (b ∷ s) = go (eqb b 10) refl (ran size (step_of w word b state) s)
+  ran size state (b ∷ s) = go (eqb b 10) refl (ran size (step_of w word b (class_of b) state) s)
     where
-      go : (t : Bool) → eqb b 10 ≡ t → run_of size w word (step_of w word b state) s ≡ on_cut size (step_of w word b state) (first_line s)
+      go : (t : Bool) → eqb b 10 ≡ t → run_of size w word (step_of w word b (class_of b) state) s ≡ on_cut size (step_of w word b (class_of b) state) (first_line s)
           → run_of size w word state (b ∷ s) ≡ on_cut size state (first_line (b ∷ s))
       go true e ih = rw e
       go false e ih = rw e (ih ∙ on_longer size state b (first_line s))

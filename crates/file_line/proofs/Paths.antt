@@ -1,45 +1,17 @@
--- The answers of the machine's functions, one law for each path through their code: the tests on the way pick the case. Assumes nothing.
+-- What the machine's steps come to (specs/Steps), one law for each path: the tests on the way pick the case. Assumes nothing.
 use mathlib.Core.Path.{◌≡◌}
 use mathlib.Core.Bool.{Bool, true, false}
 use mathlib.Core.List.{List}
-use Prim.Native.Nat.{ℕ, ◌+◌, ◌-◌, ◌*◌, min, ◌≤◌, ◌<◌}
-use native.Mathlib.Omega.{arith}
+use Prim.Native.Nat.{ℕ, ◌+◌, ◌-◌, ◌≤◌, ◌<◌}
 use lib.ListN.{length, get_or}
-use lib.Dec.{leb}
 use borrow.Author.Tests.{le-leb, lt-leb, eq-eqb, ne_eqb}
 use Rattle.file_line.specs.declared.line.Wanted.{Wanted}
-use Rattle.file_line.specs.declared.state.Number.{Number}
+use Rattle.file_line.specs.declared.numbers.Number.{Number}
 use Rattle.file_line.specs.declared.state.State.TheVariants.{Letters, Numbers, Bad}
 use Rattle.file_line.specs.OneLine.{stopped, went}
-use Rattle.file_line.specs.Steps.{greatest, more_of, still_of, with_digit, with_comma, with_letter, opened, closed_number}
-
-pub more_fits : (n : Number) (b : ℕ) → n.value * 10 + (b - 48) ≤ greatest
-    → record { digits = n.digits + 1; value = n.value * 10 + (b - 48); commas = n.commas; allowed = n.allowed } ≡ more_of n b
-unfolding more_of
-more_fits n b h =
-    let e : min (n.value * 10 + (b - 48)) greatest ≡ n.value * 10 + (b - 48) = omega arith in
-    rw (e, le-leb (n.value * 10 + (b - 48)) greatest h)
-
-pub more_over : (n : Number) (b : ℕ) → greatest < n.value * 10 + (b - 48)
-    → record { digits = n.digits + 1; value = greatest; commas = n.commas; allowed = false } ≡ more_of n b
-unfolding more_of
-more_over n b h =
-    let e : min (n.value * 10 + (b - 48)) greatest ≡ greatest = omega arith in
-    rw (e, lt-leb (n.value * 10 + (b - 48)) greatest h)
+use Rattle.file_line.specs.Steps.{more_of, still_of, with_digit, with_comma, with_letter, opened, closed_number}
 
 module _ (w : Wanted) (n : Number) where
-  pub still_not : n.allowed ≡ false → false ≡ still_of w n
-  unfolding still_of
-  still_not e = rw e
-
-  pub still_low : n.allowed ≡ true → n.value < w.low → false ≡ still_of w n
-  unfolding still_of
-  still_low e h = rw (e, lt-leb w.low n.value h)
-
-  pub still_high : n.allowed ≡ true → w.low ≤ n.value → leb n.value w.high ≡ still_of w n
-  unfolding still_of
-  still_high e h = rw (e, le-leb w.low n.value h)
-
   pub digit_full : (b : ℕ) → w.digits ≤ n.digits → Bad ≡ with_digit w n b
   unfolding with_digit
   digit_full b h = rw (le-leb w.digits n.digits h)

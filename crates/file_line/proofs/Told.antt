@@ -7,6 +7,8 @@ use Prim.Native.Nat.{ℕ, ◌-◌, ◌≤◌}
 use native.Mathlib.Omega.{arith}
 use lib.ListN.{length, take, drop, length-append, take-append-drop}
 use lib.Seq.{drop-append_seam}
+use Rattle.std.specs.Prelude.{Result, Ok, Err}
+use Rattle.refusals.specs.Said.{number_of}
 use Rattle.layout.specs.Bytes.{within}
 use Rattle.layout.specs.Number.{all}
 use Rattle.layout.specs.Line.{Outcome, fault, found, line_at}
@@ -14,10 +16,9 @@ use Rattle.layout.specs.Line as layout
 use Rattle.layout.specs.Reading.{Reading, refused_at, reading_then, only}
 use Rattle.layout.proofs.Tests.{both, between_holds}
 use Rattle.layout.proofs.Lines.{found_good}
-use Rattle.file_line.specs.declared.line.Word.{Word}
 use Rattle.file_line.specs.declared.line.Wanted.{Wanted}
-use Rattle.file_line.specs.declared.line.Line.{Line}
-use Rattle.file_line.specs.declared.line.Line.TheVariants.{Refused, Found}
+use Rattle.file_line.specs.declared.line.Found.{Found}
+use Rattle.file_line.specs.declared.line.Fault.{Fault}
 use Rattle.file_line.specs.OneLine.{line_wanted, stopped, went, brief, said}
 
 -- the bytes that are left start where the next line does
@@ -37,34 +38,34 @@ rest_there bytes at n line ns rest e =
     ∙ (ap (λ (s : List ℕ). take at bytes ++ s) there ∙ take-append-drop at bytes) in
     subst (λ (xs : List ℕ). drop (length xs - length rest) xs ≡ rest) whole (drop-end (take at bytes ++ (text ++ 10 ∷ [])) rest)
 
-module _ (bytes : List ℕ) (at n : ℕ) {wanted line : layout.Line} (same : wanted ≡ line) (r : Line)
+module _ (bytes : List ℕ) (at n : ℕ) {wanted line : layout.Line} (same : wanted ≡ line) (r : Result Found Fault)
     (says : said r ≡ brief (length bytes) (line_at n wanted (drop at bytes))) where
   tells : brief (length bytes) (line_at n line (drop at bytes)) ≡ said r
   tells = ap (λ (l : layout.Line). brief (length bytes) (line_at n l (drop at bytes))) (sym same) ∙ sym says
 
-  pub told-refused : {number m : ℕ} → r ≡ Refused number m → line_at n line (drop at bytes) ≡ fault number m
-  told-refused {number} {m} e = go (line_at n line (drop at bytes)) (tells ∙ ap said e)
+  pub told-refused : {x : Fault} → r ≡ Err x → line_at n line (drop at bytes) ≡ fault (number_of x.refusal) x.line
+  told-refused {x} e = go (line_at n line (drop at bytes)) (tells ∙ ap said e)
     where
-      go : (o : Outcome) → brief (length bytes) o ≡ stopped number m → o ≡ fault number m
+      go : (o : Outcome) → brief (length bytes) o ≡ stopped (number_of x.refusal) x.line → o ≡ fault (number_of x.refusal) x.line
       go (fault a b) f = cc
       go (found ns rest) f = absurd (let z : ◌≡◌ {A = ℕ} 0 1 = cc in omega arith)
 
-  pub told-found : {last place : ℕ} → r ≡ Found last place → (ns : List ℕ) × (line_at n line (drop at bytes) ≡ found ns (drop place bytes)) × (only ns ≡ last)
-  told-found {last} {place} e = go (line_at n line (drop at bytes)) refl (tells ∙ ap said e)
+  pub told-found : {x : Found} → r ≡ Ok x → (ns : List ℕ) × (line_at n line (drop at bytes) ≡ found ns (drop x.next bytes)) × (only ns ≡ x.last)
+  told-found {x} e = go (line_at n line (drop at bytes)) refl (tells ∙ ap said e)
     where
-      go : (o : Outcome) → line_at n line (drop at bytes) ≡ o → brief (length bytes) o ≡ went last place
-          → (ns : List ℕ) × (line_at n line (drop at bytes) ≡ found ns (drop place bytes)) × (only ns ≡ last)
+      go : (o : Outcome) → line_at n line (drop at bytes) ≡ o → brief (length bytes) o ≡ went x.last x.next
+          → (ns : List ℕ) × (line_at n line (drop at bytes) ≡ found ns (drop x.next bytes)) × (only ns ≡ x.last)
       go (fault a b) f g = absurd (let z : ◌≡◌ {A = ℕ} 0 1 = cc in omega arith)
       go (found ns rest) f g =
-          let p : length bytes - length rest ≡ place = cc in
+          let p : length bytes - length rest ≡ x.next = cc in
           (ns, f ∙ ap (found ns) (sym (rest_there bytes at n line ns rest f) ∙ ap (λ (k : ℕ). drop k bytes) p), cc)
 
   -- the answer that goes on from the line
-  pub then_refused : {number m : ℕ} (next : List ℕ → List ℕ → Reading) → r ≡ Refused number m
-      → refused_at number m ≡ reading_then (line_at n line (drop at bytes)) next
+  pub then_refused : {x : Fault} (next : List ℕ → List ℕ → Reading) → r ≡ Err x
+      → refused_at (number_of x.refusal) x.line ≡ reading_then (line_at n line (drop at bytes)) next
   then_refused next e = rw (told-refused e)
 
-  pub then_found : {last place : ℕ} {reading : Reading} (next : ℕ → List ℕ → Reading) → r ≡ Found last place → reading ≡ next last (drop place bytes)
+  pub then_found : {x : Found} {reading : Reading} (next : ℕ → List ℕ → Reading) → r ≡ Ok x → reading ≡ next x.last (drop x.next bytes)
       → reading ≡ reading_then (line_at n line (drop at bytes)) (λ ns rest. next (only ns) rest)
   then_found next e f = let t = told-found e in rw (t.1, t.2) f
 
@@ -74,9 +75,9 @@ only_high low high (n ∷ []) h = (between_holds low high n (both (within low hi
 only_high low high (n ∷ m ∷ ns) h = only_high low high (m ∷ ns) (both (within low high n) (all (within low high) (m ∷ ns)) h).1
 
 -- a number that is found is not above the greatest that is wanted
-pub last_high : (bytes : List ℕ) (at n : ℕ) (word : Word) (w : Wanted) (r : Line) {last place : ℕ}
-    → said r ≡ brief (length bytes) (line_at n (line_wanted word w) (drop at bytes)) → r ≡ Found last place → last ≤ w.high
-last_high bytes at n word w r says e =
+pub last_high : (bytes : List ℕ) (at n : ℕ) (w : Wanted) (r : Result Found Fault) {x : Found}
+    → said r ≡ brief (length bytes) (line_at n (line_wanted w) (drop at bytes)) → r ≡ Ok x → x.last ≤ w.high
+last_high bytes at n w r says e =
     let t = told-found bytes at n refl r says e in
     subst (λ (m : ℕ). m ≤ w.high) t.2
-    (only_high w.low w.high t.0 (found_good n (line_wanted word w) (drop at bytes) t.0 _ t.1).allowed)
+    (only_high w.low w.high t.0 (found_good n (line_wanted w) (drop at bytes) t.0 _ t.1).allowed)

@@ -18,7 +18,7 @@ use Rattle.layout.proofs.Tests.{between_in, between_low, between_high, between_h
 use Rattle.layout.proofs.Classes.{means, Means}
 use Rattle.layout.proofs.Numbers.{number_yes, number_digits, number_long, number_plain, all_append, plain_first, value_from-append, pieces_some, and_right}
 use Rattle.file_line.specs.declared.line.Wanted.{Wanted}
-use Rattle.file_line.specs.declared.state.Number.{Number}
+use Rattle.file_line.specs.declared.numbers.Number.{Number}
 use Rattle.file_line.specs.declared.state.State.{State}
 use Rattle.file_line.specs.declared.state.State.TheVariants.{Numbers, Bad}
 use Rattle.file_line.specs.OneLine.{Brief, stopped, went}

@@ -1,6 +1,7 @@
 -- What is promised of one line (document 01, "Proof file"): the class of a byte, the line that is asked for, and what is told of it. All in
 -- the terms of the layout.
-use Rattle.std.specs.Prelude.{List, ℕ, ◌+◌, ◌-◌, length}
+use Rattle.std.specs.Prelude.{List, ℕ, ◌+◌, ◌-◌, length, Result, Ok, Err}
+use Rattle.refusals.specs.Said.{number_of}
 use Rattle.layout.specs.Bytes.{within}
 use Rattle.layout.specs.Bytes as bytes
 use Rattle.layout.specs.Words as words
@@ -12,8 +13,8 @@ use Rattle.file_line.specs.declared.class.Class.TheVariants.{Digit, Comma, Equal
 use Rattle.file_line.specs.declared.line.Word.{Word}
 use Rattle.file_line.specs.declared.line.Word.TheVariants.{Sumproof, Field, Vars, Degree, Claim, Round, End}
 use Rattle.file_line.specs.declared.line.Wanted.{Wanted}
-use Rattle.file_line.specs.declared.line.Line.{Line}
-use Rattle.file_line.specs.declared.line.Line.TheVariants.{Refused, Found}
+use Rattle.file_line.specs.declared.line.Found.{Found}
+use Rattle.file_line.specs.declared.line.Fault.{Fault}
 
 -- the classes that are answered are the layout's
 abbrev pub meant : Class → bytes.Class
@@ -40,8 +41,8 @@ line_with word wanted =
     record { word = word; count = wanted.commas + 1; most = wanted.digits; allowed = λ n. within wanted.low wanted.high n }
 
 -- the line that is asked for
-abbrev pub line_wanted : Word → Wanted → layout.Line
-line_wanted word wanted = line_with (letters word) wanted
+abbrev pub line_wanted : Wanted → layout.Line
+line_wanted wanted = line_with (letters wanted.word) wanted
 
 -- what is told of a line: a refusal's number and its line; or the line's last number, and where the next line starts
 pub data Brief : Type 0 where
@@ -54,6 +55,6 @@ brief size (fault number at) = stopped number at
 brief size (found ns rest) = went (only ns) (size - length rest)
 
 -- what an answer says
-abbrev pub said : Line → Brief
-said (Refused number at) = stopped number at
-said (Found last next) = went last next
+abbrev pub said : Result Found Fault → Brief
+said (Ok line) = went line.last line.next
+said (Err refused) = stopped (number_of refused.refusal) refused.line

@@ -1,23 +1,14 @@
 -- What the steps of the machine promise, over the types of the code. Only inner functions promise it: nothing that a caller is promised
 -- rests on this file.
-use Rattle.std.specs.Prelude.{Bool, true, false, ◌&&◌, List, [], ◌∷◌, ℕ, ◌+◌, ◌-◌, ◌*◌, min, length, get_or, leb, eqb}
+use Rattle.std.specs.Prelude.{Bool, true, ◌&&◌, List, [], ◌∷◌, ℕ, ◌+◌, ◌-◌, ◌*◌, min, length, get_or, leb, eqb}
 use Rattle.refusals.specs.First.{choose}
 use Rattle.layout.specs.Bytes.{within, class_of}
 use Rattle.layout.specs.Bytes as bytes
 use Rattle.file_line.specs.declared.line.Wanted.{Wanted}
-use Rattle.file_line.specs.declared.state.Number.{Number}
+use Rattle.file_line.specs.declared.numbers.Number.{Number}
 use Rattle.file_line.specs.declared.state.State.{State}
 use Rattle.file_line.specs.declared.state.State.TheVariants.{Letters, Numbers, Bad}
 use Rattle.file_line.specs.OneLine.{Brief, stopped, went}
-
--- the class of line ends
-abbrev pub is_end : bytes.Class → Bool
-is_end bytes.line_end = true
-is_end bytes.digit = false
-is_end bytes.comma = false
-is_end bytes.equals = false
-is_end bytes.letter = false
-is_end bytes.other = false
 
 -- the greatest number of 64 bits
 abbrev pub greatest : ℕ
@@ -75,11 +66,11 @@ in_numbers wanted n b bytes.line_end = Bad
 in_numbers wanted n b bytes.letter = Bad
 in_numbers wanted n b bytes.other = Bad
 
--- the machine's step
-abbrev pub step_of : Wanted → List ℕ → ℕ → State → State
-step_of wanted word b (Letters letters) = in_word wanted word letters b (class_of b)
-step_of wanted word b (Numbers n) = in_numbers wanted n b (class_of b)
-step_of wanted word b Bad = Bad
+-- the machine's step, for a byte and its class
+abbrev pub step_of : Wanted → List ℕ → ℕ → bytes.Class → State → State
+step_of wanted word b class (Letters letters) = in_word wanted word letters b class
+step_of wanted word b class (Numbers n) = in_numbers wanted n b class
+step_of wanted word b class Bad = Bad
 
 -- at the line end: one number more, no comma to come, all allowed
 unfoldable pub closed_number : Wanted → Number → ℕ → Brief
@@ -94,12 +85,8 @@ closed_of wanted (Letters letters) next = stopped 10 wanted.line
 closed_of wanted (Numbers n) next = closed_number wanted n next
 closed_of wanted Bad next = stopped 10 wanted.line
 
--- no line end is left: 11 where nothing is, 10 where bytes are
-unfoldable pub unended_of : ℕ → ℕ → ℕ → Brief
-unended_of size at line = choose (leb size at) (stopped 11 line) (stopped 10 line)
-
 -- what the machine comes to on the last bytes of so many
 abbrev pub run_of : ℕ → Wanted → List ℕ → State → List ℕ → Brief
 run_of size wanted word state [] = stopped 10 wanted.line
 run_of size wanted word state (b ∷ rest) =
-    choose (eqb b 10) (closed_of wanted state (size - length rest)) (run_of size wanted word (step_of wanted word b state) rest)
+    choose (eqb b 10) (closed_of wanted state (size - length rest)) (run_of size wanted word (step_of wanted word b (class_of b) state) rest)

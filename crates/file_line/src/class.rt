@@ -2,10 +2,9 @@
 ghost use Rattle.std.specs.Prelude.{◌≡◌};
 ghost use Rattle.layout.specs.Bytes.{class_of};
 ghost use Rattle.file_line.specs.OneLine.{meant};
-ghost use Rattle.file_line.specs.Steps.{is_end};
 
 // The classes, in the document's order.
-#[derive(Clone, Copy)]
+#[derive(Clone, Copy, Debug, PartialEq, Eq)]
 pub enum Class {
     Digit,
     Comma,
@@ -27,19 +26,5 @@ pub fn class_of(b: u8) -> Class
         10 => Class::LineEnd,
         b'a'..=b'z' => Class::Letter,
         _ => Class::Other,
-    }
-}
-
-// Whether a byte of a class ends a line.
-pub(crate) fn ends(class: Class) -> bool
-    ensures { result ≡ is_end (meant class) }
-{
-    match class {
-        Class::LineEnd => true,
-        Class::Digit => false,
-        Class::Comma => false,
-        Class::Equals => false,
-        Class::Letter => false,
-        Class::Other => false,
     }
 }

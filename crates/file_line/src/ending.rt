@@ -1,52 +1,40 @@
-// How a line ends: with its line end, or where the bytes do.
-ghost use Rattle.std.specs.Prelude.{◌≡◌, length};
+// How a line ends with its line end.
+ghost use Rattle.std.specs.Prelude.{◌≡◌};
 ghost use Rattle.file_line.specs.OneLine.{said};
-ghost use Rattle.file_line.specs.Steps.{closed_number, closed_of, unended_of};
+ghost use Rattle.file_line.specs.Steps.{closed_number, closed_of};
 
-use super::line::{Line, Wanted};
-use super::numbers;
-use super::state::{Number, State};
+use super::line::{Fault, Found, Wanted};
+use super::numbers::Number;
+use super::state::State;
+use refusals::Refusal;
 
-// A line end after a number.
-fn closed_number(n: Number, wanted: Wanted, next: usize) -> Line
-    ensures { said result ≡ closed_number wanted n next }
-{
-    let line = wanted.line;
-    if n.digits == 0 {
-        return Line::Refused { number: 10, line };
-    }
-    if n.commas != 0 {
-        return Line::Refused { number: 10, line };
-    }
-    if numbers::still(n, wanted) {
-        Line::Found {
-            last: n.value,
-            next,
+impl Number {
+    // A line end after a number.
+    #[tactic(auto, unfolding(crate::specs::Steps::closed_number))]
+    fn closed(self, wanted: Wanted, next: usize) -> Result<Found, Fault>
+        ensures { said result ≡ closed_number wanted self next }
+    {
+        if self.digits == 0 || self.commas != 0 {
+            return Err(wanted.fault(Refusal::BadLine));
         }
-    } else {
-        Line::Refused { number: 12, line }
+        if !self.still_allowed(wanted) {
+            return Err(wanted.fault(Refusal::NotAllowed));
+        }
+        Ok(Found {
+            last: self.value,
+            next,
+        })
     }
 }
 
-// A line end.
-pub(crate) fn closed(state: State, wanted: Wanted, next: usize) -> Line
-    ensures { said result ≡ closed_of wanted state next }
-{
-    let line = wanted.line;
-    match state {
-        State::Letters(_) => Line::Refused { number: 10, line },
-        State::Numbers(n) => closed_number(n, wanted, next),
-        State::Bad => Line::Refused { number: 10, line },
-    }
-}
-
-// No line end is left: either nothing is, or bytes that are no line.
-pub(crate) fn unended(bytes: &[u8], at: usize, line: u32) -> Line
-    ensures { said result ≡ unended_of (length bytes.now) at line }
-{
-    if bytes.len() <= at {
-        Line::Refused { number: 11, line }
-    } else {
-        Line::Refused { number: 10, line }
+impl State {
+    // A line end.
+    pub(crate) fn closed(self, wanted: Wanted, next: usize) -> Result<Found, Fault>
+        ensures { said result ≡ closed_of wanted self next }
+    {
+        match self {
+            State::Numbers(number) => number.closed(wanted, next),
+            _ => Err(wanted.fault(Refusal::BadLine)),
+        }
     }
 }

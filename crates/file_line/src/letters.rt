@@ -1,31 +1,30 @@
 // The machine over a line's word: letter by letter, and the `=` after it.
 ghost use Rattle.std.specs.Prelude.{◌≡◌};
-ghost use Rattle.file_line.specs.OneLine.{meant};
+ghost use Rattle.file_line.specs.OneLine.{letters, meant};
 ghost use Rattle.file_line.specs.Steps.{with_letter, opened, in_word};
 
 use super::class::Class;
 use super::line::Wanted;
-use super::state::{Number, State};
+use super::numbers::Number;
+use super::state::State;
 
 // A letter of the line's word.
-fn with_letter(letters: usize, word: &[u8], b: u8) -> State
-    ensures { result ≡ with_letter word.now letters b }
+#[tactic(auto, unfolding(crate::specs::Steps::with_letter))]
+fn with_letter(place: usize, wanted: Wanted, b: u8) -> State
+    ensures { result ≡ with_letter (letters wanted.word) place b }
 {
-    if word.len() <= letters {
-        return State::Bad;
-    }
-    if b == word[letters] {
-        State::Letters(letters + 1)
-    } else {
-        State::Bad
+    match wanted.word.letters().get(place) {
+        Some(&letter) if letter == b => State::Letters(place + 1),
+        _ => State::Bad,
     }
 }
 
 // The `=` after the line's word.
-fn open(letters: usize, word: &[u8], wanted: Wanted) -> State
-    ensures { result ≡ opened wanted word.now letters }
+#[tactic(auto, unfolding(crate::specs::Steps::opened))]
+fn open(place: usize, wanted: Wanted) -> State
+    ensures { result ≡ opened wanted (letters wanted.word) place }
 {
-    if letters == word.len() {
+    if place == wanted.word.letters().len() {
         State::Numbers(Number {
             digits: 0,
             value: 0,
@@ -38,15 +37,12 @@ fn open(letters: usize, word: &[u8], wanted: Wanted) -> State
 }
 
 // What a byte does to a word that is being read.
-pub(crate) fn in_word(letters: usize, word: &[u8], wanted: Wanted, class: Class, b: u8) -> State
-    ensures { result ≡ in_word wanted word.now letters b (meant class) }
+pub(crate) fn in_word(place: usize, wanted: Wanted, class: Class, b: u8) -> State
+    ensures { result ≡ in_word wanted (letters wanted.word) place b (meant class) }
 {
     match class {
-        Class::Letter => with_letter(letters, word, b),
-        Class::Equals => open(letters, word, wanted),
-        Class::Digit => State::Bad,
-        Class::Comma => State::Bad,
-        Class::LineEnd => State::Bad,
-        Class::Other => State::Bad,
+        Class::Letter => with_letter(place, wanted, b),
+        Class::Equals => open(place, wanted),
+        _ => State::Bad,
     }
 }

@@ -1,100 +1,85 @@
 // The machine over a line's numbers: digit by digit, and comma by comma.
-ghost use Rattle.std.specs.Prelude.{◌≡◌, ◌≤◌, ◌<◌};
-ghost use Rattle.layout.specs.Bytes.{class_of};
+ghost use Rattle.std.specs.Prelude.{◌≡◌, ◌<◌};
 ghost use Rattle.file_line.specs.OneLine.{meant};
 ghost use Rattle.file_line.specs.Steps.{more_of, still_of, with_digit, with_comma, in_numbers};
 
 use super::class::Class;
 use super::line::Wanted;
-use super::state::{Number, State};
+use super::state::State;
 
-// The greatest number of 64 bits. A greater value is held as this one.
-const GREATEST: u64 = 18446744073709551615;
+// A number that is being read: its digits so far and their value, how many commas are still to come, and whether it may be allowed:
+// each number before it is, and it fits in 64 bits.
+#[derive(Clone, Copy, Debug, PartialEq, Eq)]
+pub(crate) struct Number {
+    pub digits: u32,
+    pub value: u64,
+    pub commas: u32,
+    pub allowed: bool,
+}
 
-// A number with one digit more. One that does not fit in 64 bits is greater than every limit, so it is not allowed.
-fn more(n: Number, b: u8) -> Number
-    requires { (48 ≤ b) × (b ≤ 57) × (n.digits < 4294967295) }
-    ensures { result ≡ more_of n b }
-{
-    let digit = (b - b'0') as u64;
-    let digits = n.digits + 1;
-    if n.value <= (GREATEST - digit) / 10 {
+impl Number {
+    // A number with one digit more. One that does not fit in 64 bits is held as the greatest that does, and is not allowed.
+    #[tactic(auto, unfolding(crate::specs::Steps::more_of))]
+    fn more(self, b: u8) -> Number
+        requires { self.digits < u32.MAX }
+        ensures { result ≡ more_of self b }
+    {
+        let digit = u64::from(b.saturating_sub(b'0'));
+        let whole = self
+            .value
+            .checked_mul(10)
+            .and_then(|tens| tens.checked_add(digit));
         Number {
-            digits,
-            value: n.value * 10 + digit,
-            commas: n.commas,
-            allowed: n.allowed,
-        }
-    } else {
-        Number {
-            digits,
-            value: GREATEST,
-            commas: n.commas,
-            allowed: false,
+            digits: self.digits + 1,
+            value: whole.unwrap_or(u64::MAX),
+            allowed: self.allowed && whole.is_some(),
+            ..self
         }
     }
-}
 
-// Whether the numbers up to this one are allowed.
-pub(crate) fn still(n: Number, wanted: Wanted) -> bool
-    ensures { result ≡ still_of wanted n }
-{
-    if !n.allowed {
-        return false;
+    // Whether the numbers up to this one are allowed.
+    #[tactic(auto, unfolding(crate::specs::Steps::still_of))]
+    pub(crate) fn still_allowed(self, wanted: Wanted) -> bool
+        ensures { result ≡ still_of wanted self }
+    {
+        self.allowed && wanted.low <= self.value && self.value <= wanted.high
     }
-    if n.value < wanted.low {
-        return false;
-    }
-    n.value <= wanted.high
-}
 
-// A digit more: not where there are as many as may be, nor after a leading 0.
-fn with_digit(n: Number, wanted: Wanted, b: u8) -> State
-    requires { (48 ≤ b) × (b ≤ 57) }
-    ensures { result ≡ with_digit wanted n b }
-{
-    if wanted.digits <= n.digits {
-        return State::Bad;
+    // A digit more: not where there are as many as may be, nor after a leading 0.
+    #[tactic(auto, unfolding(crate::specs::Steps::with_digit))]
+    fn with_digit(self, wanted: Wanted, b: u8) -> State
+        ensures { result ≡ with_digit wanted self b }
+    {
+        if wanted.digits <= self.digits || (self.digits != 0 && self.value == 0) {
+            return State::Bad;
+        }
+        State::Numbers(self.more(b))
     }
-    if n.digits == 0 {
-        return State::Numbers(more(n, b));
-    }
-    if n.value == 0 {
-        return State::Bad;
-    }
-    State::Numbers(more(n, b))
-}
 
-// A comma: the number before it ends, and the next one starts.
-fn with_comma(n: Number, wanted: Wanted) -> State
-    ensures { result ≡ with_comma wanted n }
-{
-    if n.digits == 0 {
-        return State::Bad;
+    // A comma: the number before it ends, and the next one starts.
+    #[tactic(auto, unfolding(crate::specs::Steps::with_comma))]
+    fn with_comma(self, wanted: Wanted) -> State
+        ensures { result ≡ with_comma wanted self }
+    {
+        if self.digits == 0 || self.commas == 0 {
+            return State::Bad;
+        }
+        State::Numbers(Number {
+            digits: 0,
+            value: 0,
+            commas: self.commas - 1,
+            allowed: self.still_allowed(wanted),
+        })
     }
-    if n.commas == 0 {
-        return State::Bad;
-    }
-    let allowed = still(n, wanted);
-    State::Numbers(Number {
-        digits: 0,
-        value: 0,
-        commas: n.commas - 1,
-        allowed,
-    })
-}
 
-// What a byte does to a number that is being read.
-pub(crate) fn in_numbers(n: Number, wanted: Wanted, class: Class, b: u8) -> State
-    requires { meant class ≡ class_of b }
-    ensures { result ≡ in_numbers wanted n b (meant class) }
-{
-    match class {
-        Class::Digit => with_digit(n, wanted, b),
-        Class::Comma => with_comma(n, wanted),
-        Class::Equals => State::Bad,
-        Class::LineEnd => State::Bad,
-        Class::Letter => State::Bad,
-        Class::Other => State::Bad,
+    // What a byte does to a number that is being read.
+    pub(crate) fn after(self, wanted: Wanted, class: Class, b: u8) -> State
+        ensures { result ≡ in_numbers wanted self b (meant class) }
+    {
+        match class {
+            Class::Digit => self.with_digit(wanted, b),
+            Class::Comma => self.with_comma(wanted),
+            _ => State::Bad,
+        }
     }
 }
