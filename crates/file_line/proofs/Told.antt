@@ -1,5 +1,4 @@
--- What the answer to a line tells of the bytes: what the layout finds there (`told-refused`, `told-found`), and so the answer of a reader
--- that goes on from it. Assumes nothing.
+-- What the answer to a line tells of the bytes: what the layout finds there (`told-refused`, `told-found`). Assumes nothing.
 use mathlib.Core.Path.{◌≡◌, refl, sym, ap, subst, ◌∙◌}
 use mathlib.Core.Bool.{true}
 use mathlib.Core.List.{List, [], ◌∷◌, ◌++◌, append_assoc}
@@ -13,7 +12,7 @@ use Rattle.layout.specs.Bytes.{within}
 use Rattle.layout.specs.Number.{all}
 use Rattle.layout.specs.Line.{Outcome, fault, found, line_at}
 use Rattle.layout.specs.Line as layout
-use Rattle.layout.specs.Reading.{Reading, refused_at, reading_then, only}
+use Rattle.layout.specs.Reading.{only}
 use Rattle.layout.proofs.Tests.{both, between_holds}
 use Rattle.layout.proofs.Lines.{found_good}
 use Rattle.file_line.specs.declared.line.Wanted.{Wanted}
@@ -38,36 +37,25 @@ rest_there bytes at n line ns rest e =
     ∙ (ap (λ (s : List ℕ). take at bytes ++ s) there ∙ take-append-drop at bytes) in
     subst (λ (xs : List ℕ). drop (length xs - length rest) xs ≡ rest) whole (drop-end (take at bytes ++ (text ++ 10 ∷ [])) rest)
 
-module _ (bytes : List ℕ) (at n : ℕ) {wanted line : layout.Line} (same : wanted ≡ line) (r : Result Found Fault)
-    (says : said r ≡ brief (length bytes) (line_at n wanted (drop at bytes))) where
-  tells : brief (length bytes) (line_at n line (drop at bytes)) ≡ said r
-  tells = ap (λ (l : layout.Line). brief (length bytes) (line_at n l (drop at bytes))) (sym same) ∙ sym says
-
+module _ (bytes : List ℕ) (at n : ℕ) (line : layout.Line) (r : Result Found Fault)
+    (says : said r ≡ brief (length bytes) (line_at n line (drop at bytes))) where
   pub told-refused : {x : Fault} → r ≡ Err x → line_at n line (drop at bytes) ≡ fault (number_of x.refusal) x.line
-  told-refused {x} e = go (line_at n line (drop at bytes)) (tells ∙ ap said e)
+  told-refused {x} e = go (line_at n line (drop at bytes)) (sym says ∙ ap said e)
     where
       go : (o : Outcome) → brief (length bytes) o ≡ stopped (number_of x.refusal) x.line → o ≡ fault (number_of x.refusal) x.line
       go (fault a b) f = cc
       go (found ns rest) f = absurd (let z : ◌≡◌ {A = ℕ} 0 1 = cc in omega arith)
 
-  pub told-found : {x : Found} → r ≡ Ok x → (ns : List ℕ) × (line_at n line (drop at bytes) ≡ found ns (drop x.next bytes)) × (only ns ≡ x.last)
-  told-found {x} e = go (line_at n line (drop at bytes)) refl (tells ∙ ap said e)
+  pub told-found : {x : Found} → r ≡ Ok x
+      → (ns : List ℕ) × (line_at n line (drop at bytes) ≡ found ns (drop x.next bytes)) × (only ns ≡ x.last) × (x.next ≤ length bytes)
+  told-found {x} e = go (line_at n line (drop at bytes)) refl (sym says ∙ ap said e)
     where
       go : (o : Outcome) → line_at n line (drop at bytes) ≡ o → brief (length bytes) o ≡ went x.last x.next
-          → (ns : List ℕ) × (line_at n line (drop at bytes) ≡ found ns (drop x.next bytes)) × (only ns ≡ x.last)
+          → (ns : List ℕ) × (line_at n line (drop at bytes) ≡ found ns (drop x.next bytes)) × (only ns ≡ x.last) × (x.next ≤ length bytes)
       go (fault a b) f g = absurd (let z : ◌≡◌ {A = ℕ} 0 1 = cc in omega arith)
       go (found ns rest) f g =
           let p : length bytes - length rest ≡ x.next = cc in
-          (ns, f ∙ ap (found ns) (sym (rest_there bytes at n line ns rest f) ∙ ap (λ (k : ℕ). drop k bytes) p), cc)
-
-  -- the answer that goes on from the line
-  pub then_refused : {x : Fault} (next : List ℕ → List ℕ → Reading) → r ≡ Err x
-      → refused_at (number_of x.refusal) x.line ≡ reading_then (line_at n line (drop at bytes)) next
-  then_refused next e = rw (told-refused e)
-
-  pub then_found : {x : Found} {reading : Reading} (next : ℕ → List ℕ → Reading) → r ≡ Ok x → reading ≡ next x.last (drop x.next bytes)
-      → reading ≡ reading_then (line_at n line (drop at bytes)) (λ ns rest. next (only ns) rest)
-  then_found next e f = let t = told-found e in rw (t.1, t.2) f
+          (ns, f ∙ ap (found ns) (sym (rest_there bytes at n line ns rest f) ∙ ap (λ (k : ℕ). drop k bytes) p), cc, omega arith)
 
 only_high : (low high : ℕ) (ns : List ℕ) → all (within low high) ns ≡ true → only ns ≤ high
 only_high low high [] h = omega arith
@@ -75,9 +63,5 @@ only_high low high (n ∷ []) h = (between_holds low high n (both (within low hi
 only_high low high (n ∷ m ∷ ns) h = only_high low high (m ∷ ns) (both (within low high n) (all (within low high) (m ∷ ns)) h).1
 
 -- a number that is found is not above the greatest that is wanted
-pub last_high : (bytes : List ℕ) (at n : ℕ) (w : Wanted) (r : Result Found Fault) {x : Found}
-    → said r ≡ brief (length bytes) (line_at n (line_wanted w) (drop at bytes)) → r ≡ Ok x → x.last ≤ w.high
-last_high bytes at n w r says e =
-    let t = told-found bytes at n refl r says e in
-    subst (λ (m : ℕ). m ≤ w.high) t.2
-    (only_high w.low w.high t.0 (found_good n (line_wanted w) (drop at bytes) t.0 _ t.1).allowed)
+pub last_high : (n : ℕ) (w : Wanted) (s ns rest : List ℕ) → line_at n (line_wanted w) s ≡ found ns rest → only ns ≤ w.high
+last_high n w s ns rest e = only_high w.low w.high ns (found_good n (line_wanted w) s ns rest e).allowed

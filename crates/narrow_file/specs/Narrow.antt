@@ -1,12 +1,13 @@
 -- The reader of narrow files (document 01, "Proof file"): the layout with its numbers put in, the reader's answer for every list of bytes
 -- and every lent list, and what the lent list holds after the call.
-use Rattle.std.specs.Prelude.{List, ◌++◌, ℕ, ◌+◌, ◌*◌, drop, ltb}
+use Rattle.std.specs.Prelude.{List, ◌++◌, ℕ, ◌+◌, ◌*◌, drop, ltb, Result, Ok, Err}
 use Rattle.refusals.specs.First.{choose}
+use Rattle.refusals.specs.Said.{number_of}
 use Rattle.refusals.specs.Limits.{max_vars, max_degree, max_file}
 use Rattle.narrow_field.specs.Narrow.{p}
 use Rattle.layout.specs.Reading.{Layout, Reading, file, refused_at, reading}
-use Rattle.narrow_file.specs.declared.Reply.{Reply}
-use Rattle.narrow_file.specs.declared.Reply.TheVariants.{File, Refused}
+use Rattle.file_line.specs.declared.line.Fault.{Fault}
+use Rattle.narrow_file.specs.declared.Head.{Head}
 
 -- edition 1 over the narrow field: numbers of 1 to 10 digits, K+1 in a round
 abbrev pub narrow : Layout
@@ -39,14 +40,14 @@ after (refused_at number line) list = list
 after (file vars degree claim coefficients) list = coefficients ++ drop (vars * (degree + 1)) list
 
 -- what the reader returns: a file's head, or a refusal's number and line
-pub data Head : Type 0 where
-  head : ℕ → ℕ → ℕ → Head
-  refusal : ℕ → ℕ → Head
+pub data Reply : Type 0 where
+  head : ℕ → ℕ → ℕ → Reply
+  refusal : ℕ → ℕ → Reply
 
-abbrev pub told : Reading → Head
+abbrev pub told : Reading → Reply
 told (file vars degree claim coefficients) = head vars degree claim
 told (refused_at number line) = refusal number line
 
-abbrev pub said : Reply → Head
-said (File vars degree claim) = head vars degree claim
-said (Refused number line) = refusal number line
+abbrev pub said : Result Head Fault → Reply
+said (Ok of_file) = head of_file.vars of_file.degree of_file.claim
+said (Err refused) = refusal (number_of refused.refusal) refused.line

@@ -1,18 +1,20 @@
 -- What the inner functions of the two passes promise. Nothing that a caller is promised rests on this file.
-use Rattle.std.specs.Prelude.{Bool, true, false, List, [], ◌∷◌, ◌++◌, ℕ, ◌+◌, ◌-◌, ◌*◌, ◌%◌, ◌^◌, length, take, drop}
+use Rattle.std.specs.Prelude.{Bool, true, false, List, [], ◌∷◌, ◌++◌, ℕ, ◌+◌, ◌-◌, ◌*◌, ◌%◌, ◌^◌, length, take, drop, Result, Ok, Err}
+use Rattle.std.specs.Borrow.{Bor}
+use Rattle.refusals.specs.Said.{number_of}
 use Rattle.refusals.specs.First.{choose}
 use Rattle.layout.specs.Bytes.{Class, digit, comma, equals, line_end, letter, other, class_of}
 use Rattle.layout.specs.Line.{Outcome, fault, found}
 use Rattle.layout.specs.Reading.{Reading, file, refused_at}
-use Rattle.narrow_file.specs.declared.lines.Judged.{Judged}
+use Rattle.layout.specs.Reading.{only}
+use Rattle.file_line.specs.declared.line.Word.{Word}
 use Rattle.file_line.specs.declared.line.Wanted.{Wanted}
-use Rattle.file_line.specs.declared.line.Line.{Line}
-use Rattle.file_line.specs.declared.line.Line.TheVariants as line
-use Rattle.narrow_file.specs.declared.lines.Judged.TheVariants.{File, Refused}
+use Rattle.file_line.specs.declared.line.Fault.{Fault}
+use Rattle.narrow_file.specs.declared.lines.Judged.{Judged}
 
 -- a line with one number, from the least to the greatest that is allowed
-abbrev pub one_number : ℕ → ℕ → ℕ → Wanted
-one_number line low high = record { line = line; commas = 0; digits = 10; low = low; high = high }
+abbrev pub one_number : Word → ℕ → ℕ → ℕ → Wanted
+one_number word line low high = record { word = word; line = line; commas = 0; digits = 10; low = low; high = high }
 
 -- the second pass takes a number's end for the place to store it
 abbrev pub stores : Class → Bool
@@ -41,17 +43,28 @@ collect v (b ∷ rest) = choose (stores (class_of b)) (v ∷ collect 0 rest) (co
 abbrev pub put : List ℕ → List ℕ → List ℕ
 put ns list = ns ++ drop (length ns) list
 
--- what the first pass tells: a refusal; or the file's head and where its rounds start
-abbrev pub said_judged : List ℕ → Judged → Reading
-said_judged bytes (Refused number line) = refused_at number line
-said_judged bytes (File vars degree claim rounds) = file vars degree claim (take (vars * (degree + 1)) (collect 0 (drop rounds bytes)))
+-- what the first pass tells: the file's head and the numbers in its rounds; or a refusal
+abbrev pub said_judged : Result Judged Fault → Reading
+said_judged (Ok judged) =
+    file judged.head.vars judged.head.degree judged.head.claim (take (judged.head.vars * (judged.head.degree + 1)) (collect 0 judged.rounds.now))
+said_judged (Err refused) = refused_at (number_of refused.refusal) refused.line
+
+-- an outcome with its last number alone
+abbrev pub lasts : Outcome → Outcome
+lasts (fault number line) = fault number line
+lasts (found ns rest) = found (only ns ∷ []) rest
+
+-- what the reading of a line tells: its last number and the bytes after it; or a refusal
+abbrev pub said_line : Result (ℕ × Bor (List ℕ)) Fault → Outcome
+said_line (Ok line) = found (line.0 ∷ []) line.1.now
+said_line (Err refused) = fault (number_of refused.refusal) refused.line
 
 -- an outcome without its numbers
 abbrev pub bare : Outcome → Outcome
 bare (fault number line) = fault number line
 bare (found ns rest) = found [] rest
 
--- what the reading of the rounds tells: a refusal; or where the line after them starts
-abbrev pub said_round_lines : List ℕ → Line → Outcome
-said_round_lines bytes (line.Refused number at) = fault number at
-said_round_lines bytes (line.Found last next) = found [] (drop next bytes)
+-- what the reading of the rounds tells: the bytes after them; or a refusal
+abbrev pub said_rounds : Result (Bor (List ℕ)) Fault → Outcome
+said_rounds (Ok rest) = found [] rest.now
+said_rounds (Err refused) = fault (number_of refused.refusal) refused.line

@@ -8,47 +8,40 @@ mod lines;
 ghost use Rattle.std.specs.Prelude.{◌≡◌, ◌+◌, ◌*◌, length};
 ghost use Rattle.narrow_file.specs.Narrow.{said, told, read_answer, after};
 
-use lines::Judged;
+pub use file_line::line::Fault;
+use refusals::Refusal;
 
-// What reading a file answers: the file's head, its coefficients being in the lent list; or a refusal's number and its line, 0 for
-// refusals 9 and 4.
-#[derive(Clone, Copy)]
-pub enum Reply {
-    File { vars: u32, degree: u32, claim: u32 },
-    Refused { number: u32, line: u32 },
+// What a file says before its rounds.
+#[derive(Clone, Copy, Debug, PartialEq, Eq)]
+pub struct Head {
+    pub vars: u32,
+    pub degree: u32,
+    pub claim: u32,
 }
 
-// How many coefficients the rounds of a file have.
-fn places_of(vars: u32, degree: u32) -> usize
-    ensures { result ≡ vars * (degree + 1) }
-{
-    (vars as usize) * ((degree as usize) + 1)
+impl Head {
+    // How many coefficients the rounds of a file have.
+    fn places(self) -> usize
+        ensures { result ≡ self.vars * (self.degree + 1) }
+    {
+        self.vars as usize * (self.degree as usize + 1)
+    }
 }
 
-// Reads a proof file, and puts its coefficients into the first places of the lent list.
-pub fn read(bytes: &[u8], messages: &mut [u32]) -> Reply
+// Reads a proof file, and puts its coefficients into the first places of the lent list. Refusals 9 and 4 are in line 0.
+#[tactic(auto, using(crate::proofs::Left::left_in), unfolding(crate::specs::Narrow::read_answer))]
+pub fn read(bytes: &[u8], messages: &mut [u32]) -> Result<Head, Fault>
     ensures result_value { said result ≡ told (read_answer bytes.now (length messages.old)) }
     ensures messages_after { messages.new ≡ after (read_answer bytes.now (length messages.old)) messages.old }
 {
-    let judged = lines::judge(bytes);
-    match judged {
-        Judged::Refused { number, line } => Reply::Refused { number, line },
-        Judged::File {
-            vars,
-            degree,
-            claim,
-            rounds,
-        } => {
-            let places = places_of(vars, degree);
-            if messages.len() < places {
-                return Reply::Refused { number: 4, line: 0 };
-            }
-            fill::fill(bytes, rounds, places, messages);
-            Reply::File {
-                vars,
-                degree,
-                claim,
-            }
-        }
+    let judged = lines::judge(bytes)?;
+    let places = judged.head.places();
+    if messages.len() < places {
+        return Err(Fault {
+            refusal: Refusal::TooShort,
+            line: 0,
+        });
     }
+    fill::fill(judged.rounds, &mut messages[..places]);
+    Ok(judged.head)
 }

@@ -1,198 +1,107 @@
 // The first pass: every line of a file in order. It writes nothing, and takes no count of the header for what the file has.
-ghost use Rattle.std.specs.Prelude.{◌≡◌, ◌+◌, ◌*◌, ◌≤◌, length, take, drop};
+ghost use Rattle.std.specs.Prelude.{◌≡◌, ◌≤◌, IfOk};
 ghost use Rattle.refusals.specs.Limits.{max_vars};
 ghost use Rattle.layout.specs.Line.{line_at};
-ghost use Rattle.layout.specs.Reading.{reading, from_edition, from_field, from_vars, from_degree, from_claim, from_rounds, from_end, lines_at, round_line};
-ghost use Rattle.file_line.specs.OneLine.{said, brief, line_wanted};
+ghost use Rattle.layout.specs.Reading.{reading, lines_at, round_line};
+ghost use Rattle.file_line.specs.OneLine.{line_wanted};
 ghost use Rattle.narrow_file.specs.Narrow.{narrow};
-ghost use Rattle.narrow_file.specs.Passes.{one_number, said_judged, collect, said_round_lines, bare};
+ghost use Rattle.narrow_file.specs.Passes.{one_number, lasts, said_line, said_rounds, bare, said_judged};
 
-use file_line::line;
-use file_line::line::{Line, Wanted, Word};
+use super::{Fault, Head};
+use file_line::line::{Wanted, Word, line_at};
+use narrow_field::P;
+use refusals::{MAX_DEGREE, MAX_FILE, MAX_VARS, Refusal};
 
-// What the first pass finds: a refusal; or the file's head, and where its rounds start.
-#[derive(Clone, Copy)]
-pub enum Judged {
-    Refused {
-        number: u32,
-        line: u32,
-    },
-    File {
-        vars: u32,
-        degree: u32,
-        claim: u32,
-        rounds: usize,
-    },
+// What the first pass finds: the file's head, and the bytes from its first round on.
+#[derive(Clone, Copy, Debug)]
+pub(crate) struct Judged<'a> {
+    pub head: Head,
+    pub rounds: &'a [u8],
 }
 
 // The edition.
-const EDITION: u64 = 1;
-
-// The modulus.
-const P: u64 = narrow_field::P as u64;
-
-// The greatest element.
-const LAST: u64 = P - 1;
-
-// The limits on vars and degree.
-const MOST_VARS: u64 = refusals::MAX_VARS as u64;
-
-const MOST_DEGREE: u64 = refusals::MAX_DEGREE as u64;
+const EDITION: u32 = 1;
 
 // The most digits of a number.
 const DIGITS: u32 = 10;
 
-// A line with one number, from the least to the greatest that is allowed.
-fn one_number(bytes: &[u8], at: usize, word: Word, line: u32, low: u64, high: u64) -> Line
-    ensures { said result ≡ brief (length bytes.now) (line_at line (line_wanted word (one_number line low high)) (drop at bytes.now)) }
+// Reads the first line: its last number, and the bytes after it.
+fn one_line(bytes: &[u8], wanted: Wanted) -> Result<(u64, &[u8]), Fault>
+    ensures found { lasts (line_at wanted.line (line_wanted wanted) bytes.now) ≡ said_line result }
+    ensures at_most { IfOk result (λ taken. taken.0 ≤ wanted.high) }
+{
+    let found = line_at(bytes, 0, wanted)?;
+    Ok((found.last, &bytes[found.next..]))
+}
+
+// Reads a line with one number, from the least to the greatest that is allowed.
+#[tactic(auto, using(crate::proofs::Chain::one_last))]
+fn number(bytes: &[u8], line: u32, word: Word, low: u32, high: u32) -> Result<(u32, &[u8]), Fault>
+    ensures found { line_at line (line_wanted (one_number word line low high)) bytes.now ≡ said_line result }
+    ensures at_most { IfOk result (λ taken. taken.0 ≤ high) }
 {
     let wanted = Wanted {
+        word,
         line,
         commas: 0,
         digits: DIGITS,
-        low,
-        high,
+        low: u64::from(low),
+        high: u64::from(high),
     };
-    line::line_at(bytes, at, word, wanted)
+    let (last, rest) = one_line(bytes, wanted)?;
+    Ok((last as u32, rest))
 }
 
-// The `end` line, and nothing after it.
-fn from_end(bytes: &[u8], at: usize, vars: u32, degree: u32, claim: u32, rounds: usize) -> Judged
+// Reads the rounds, each on a line of its own: the bytes after them.
+#[tactic(auto, using(crate::proofs::Chain::rounds))]
+fn after_rounds(bytes: &[u8], vars: u32, degree: u32) -> Result<&[u8], Fault>
     requires { vars ≤ max_vars }
-    ensures { said_judged bytes.now result
-        ≡ from_end narrow vars degree claim (take (vars * (degree + 1)) (collect 0 (drop rounds bytes.now))) (drop at bytes.now) }
+    ensures { bare (lines_at 6 vars (round_line narrow degree) bytes.now) ≡ said_rounds result }
 {
-    let end = vars + 6;
-    let after = vars + 7;
-    let found = one_number(bytes, at, Word::End, end, vars as u64, vars as u64);
-    match found {
-        Line::Refused { number, line } => Judged::Refused { number, line }, // nothing is written yet
-        Line::Found { last: _, next } => {
-            if next < bytes.len() {
-                Judged::Refused {
-                    number: 13,
-                    line: after,
-                }
-            } else {
-                Judged::File {
-                    vars,
-                    degree,
-                    claim,
-                    rounds,
-                }
-            }
-        }
-    }
-}
-
-// The rounds, each on a line of its own: where the line after them starts.
-fn rounds_at(bytes: &[u8], at: usize, vars: u32, degree: u32) -> Line
-    requires { vars ≤ max_vars }
-    ensures { said_round_lines bytes.now result ≡ bare (lines_at 6 vars (round_line narrow degree) (drop at bytes.now)) }
-{
-    let mut place = at;
-    let mut j: u32 = 0;
-    while j < vars {
-        let round = j + 6;
+    let mut rest = bytes;
+    for line in 6..vars + 6 {
         let wanted = Wanted {
-            line: round,
+            word: Word::Round,
+            line,
             commas: degree,
             digits: DIGITS,
             low: 0,
-            high: LAST,
+            high: u64::from(P - 1),
         };
-        let found = line::line_at(bytes, place, Word::Round, wanted);
-        match found {
-            Line::Refused { number, line } => {
-                return Line::Refused { number, line };
-            }
-            Line::Found { last: _, next } => {
-                place = next;
-            }
-        }
-        j += 1;
+        let (_, after) = one_line(rest, wanted)?;
+        rest = after;
     }
-    Line::Found {
-        last: 0,
-        next: place,
-    }
-}
-
-// From the first round on.
-fn from_rounds(bytes: &[u8], at: usize, vars: u32, degree: u32, claim: u32) -> Judged
-    requires { vars ≤ max_vars }
-    ensures { said_judged bytes.now result ≡ from_rounds narrow vars degree claim (drop at bytes.now) }
-{
-    let found = rounds_at(bytes, at, vars, degree);
-    match found {
-        Line::Refused { number, line } => Judged::Refused { number, line },
-        Line::Found { last: _, next } => from_end(bytes, next, vars, degree, claim, at),
-    }
-}
-
-// From the `claim` line on.
-fn from_claim(bytes: &[u8], at: usize, vars: u32, degree: u32) -> Judged
-    requires { vars ≤ max_vars }
-    ensures { said_judged bytes.now result ≡ from_claim narrow vars degree (drop at bytes.now) }
-{
-    let found = one_number(bytes, at, Word::Claim, 5, 0, LAST);
-    match found {
-        Line::Refused { number, line } => Judged::Refused { number, line },
-        Line::Found { last, next } => from_rounds(bytes, next, vars, degree, last as u32),
-    }
-}
-
-// From the `degree` line on.
-fn from_degree(bytes: &[u8], at: usize, vars: u32) -> Judged
-    requires { vars ≤ max_vars }
-    ensures { said_judged bytes.now result ≡ from_degree narrow vars (drop at bytes.now) }
-{
-    let found = one_number(bytes, at, Word::Degree, 4, 1, MOST_DEGREE);
-    match found {
-        Line::Refused { number, line } => Judged::Refused { number, line },
-        Line::Found { last, next } => from_claim(bytes, next, vars, last as u32),
-    }
-}
-
-// From the `vars` line on.
-fn from_vars(bytes: &[u8], at: usize) -> Judged
-    ensures { said_judged bytes.now result ≡ from_vars narrow (drop at bytes.now) }
-{
-    let found = one_number(bytes, at, Word::Vars, 3, 0, MOST_VARS);
-    match found {
-        Line::Refused { number, line } => Judged::Refused { number, line },
-        Line::Found { last, next } => from_degree(bytes, next, last as u32),
-    }
-}
-
-// From the `field` line on.
-fn from_field(bytes: &[u8], at: usize) -> Judged
-    ensures { said_judged bytes.now result ≡ from_field narrow (drop at bytes.now) }
-{
-    let found = one_number(bytes, at, Word::Field, 2, P, P);
-    match found {
-        Line::Refused { number, line } => Judged::Refused { number, line },
-        Line::Found { last: _, next } => from_vars(bytes, next),
-    }
-}
-
-// From the `sumproof` line on.
-fn from_edition(bytes: &[u8], at: usize) -> Judged
-    ensures { said_judged bytes.now result ≡ from_edition narrow (drop at bytes.now) }
-{
-    let found = one_number(bytes, at, Word::Sumproof, 1, EDITION, EDITION);
-    match found {
-        Line::Refused { number, line } => Judged::Refused { number, line },
-        Line::Found { last: _, next } => from_field(bytes, next),
-    }
+    Ok(rest)
 }
 
 // Judges a whole file.
-pub(crate) fn judge(bytes: &[u8]) -> Judged
-    ensures { said_judged bytes.now result ≡ reading narrow bytes.now }
+#[tactic(auto, using(crate::proofs::Chain::judging))]
+pub(crate) fn judge(bytes: &[u8]) -> Result<Judged<'_>, Fault>
+    ensures { said_judged result ≡ reading narrow bytes.now }
 {
-    if refusals::MAX_FILE < bytes.len() {
-        return Judged::Refused { number: 9, line: 0 };
+    if MAX_FILE < bytes.len() {
+        return Err(Fault {
+            refusal: Refusal::FileTooLong,
+            line: 0,
+        });
     }
-    from_edition(bytes, 0)
+    let (_, rest) = number(bytes, 1, Word::Sumproof, EDITION, EDITION)?;
+    let (_, rest) = number(rest, 2, Word::Field, P, P)?;
+    let (vars, rest) = number(rest, 3, Word::Vars, 0, MAX_VARS)?;
+    let (degree, rest) = number(rest, 4, Word::Degree, 1, MAX_DEGREE)?;
+    let (claim, rounds) = number(rest, 5, Word::Claim, 0, P - 1)?;
+    let rest = after_rounds(rounds, vars, degree)?;
+    let (_, rest) = number(rest, vars + 6, Word::End, vars, vars)?;
+    if !rest.is_empty() {
+        return Err(Fault {
+            refusal: Refusal::FileGoesOn,
+            line: vars + 7,
+        });
+    }
+    let head = Head {
+        vars,
+        degree,
+        claim,
+    };
+    Ok(Judged { head, rounds })
 }
