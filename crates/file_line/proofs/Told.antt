@@ -1,4 +1,4 @@
--- What the answer to a line tells of the bytes: what the layout finds there (`told-refused`, `told-found`). Assumes nothing.
+-- What the answer to a line tells of the bytes: what the layout finds there, and where the next line starts. Assumes nothing.
 use mathlib.Core.Path.{◌≡◌, refl, sym, ap, subst, ◌∙◌}
 use mathlib.Core.Bool.{true}
 use mathlib.Core.List.{List, [], ◌∷◌, ◌++◌, append_assoc}
@@ -6,8 +6,7 @@ use Prim.Native.Nat.{ℕ, ◌-◌, ◌≤◌}
 use native.Mathlib.Omega.{arith}
 use lib.ListN.{length, take, drop, length-append, take-append-drop}
 use lib.Seq.{drop-append_seam}
-use Rattle.std.specs.Prelude.{Result, Ok, Err}
-use Rattle.refusals.specs.Said.{number_of}
+use Rattle.std.specs.Prelude.{Result, Ok}
 use Rattle.layout.specs.Bytes.{within}
 use Rattle.layout.specs.Number.{all}
 use Rattle.layout.specs.Line.{Outcome, fault, found, line_at}
@@ -18,7 +17,7 @@ use Rattle.layout.proofs.Lines.{found_good}
 use Rattle.file_line.specs.declared.line.Wanted.{Wanted}
 use Rattle.file_line.specs.declared.line.Found.{Found}
 use Rattle.file_line.specs.declared.line.Fault.{Fault}
-use Rattle.file_line.specs.OneLine.{line_wanted, stopped, went, brief, said}
+use Rattle.file_line.specs.OneLine.{line_wanted, went, brief, said}
 
 -- the bytes that are left start where the next line does
 drop-end : (xs ys : List ℕ) → drop (length (xs ++ ys) - length ys) (xs ++ ys) ≡ ys
@@ -39,23 +38,16 @@ rest_there bytes at n line ns rest e =
 
 module _ (bytes : List ℕ) (at n : ℕ) (line : layout.Line) (r : Result Found Fault)
     (says : said r ≡ brief (length bytes) (line_at n line (drop at bytes))) where
-  pub told-refused : {x : Fault} → r ≡ Err x → line_at n line (drop at bytes) ≡ fault (number_of x.refusal) x.line
-  told-refused {x} e = go (line_at n line (drop at bytes)) (sym says ∙ ap said e)
-    where
-      go : (o : Outcome) → brief (length bytes) o ≡ stopped (number_of x.refusal) x.line → o ≡ fault (number_of x.refusal) x.line
-      go (fault a b) f = cc
-      go (found ns rest) f = absurd (let z : ◌≡◌ {A = ℕ} 0 1 = cc in omega arith)
-
   pub told-found : {x : Found} → r ≡ Ok x
-      → (ns : List ℕ) × (line_at n line (drop at bytes) ≡ found ns (drop x.next bytes)) × (only ns ≡ x.last) × (x.next ≤ length bytes)
+      → (ns : List ℕ) × (line_at n line (drop at bytes) ≡ found ns (drop x.next bytes)) × (only ns ≡ x.last)
   told-found {x} e = go (line_at n line (drop at bytes)) refl (sym says ∙ ap said e)
     where
       go : (o : Outcome) → line_at n line (drop at bytes) ≡ o → brief (length bytes) o ≡ went x.last x.next
-          → (ns : List ℕ) × (line_at n line (drop at bytes) ≡ found ns (drop x.next bytes)) × (only ns ≡ x.last) × (x.next ≤ length bytes)
+          → (ns : List ℕ) × (line_at n line (drop at bytes) ≡ found ns (drop x.next bytes)) × (only ns ≡ x.last)
       go (fault a b) f g = absurd (let z : ◌≡◌ {A = ℕ} 0 1 = cc in omega arith)
       go (found ns rest) f g =
           let p : length bytes - length rest ≡ x.next = cc in
-          (ns, f ∙ ap (found ns) (sym (rest_there bytes at n line ns rest f) ∙ ap (λ (k : ℕ). drop k bytes) p), cc, omega arith)
+          (ns, f ∙ ap (found ns) (sym (rest_there bytes at n line ns rest f) ∙ ap (λ (k : ℕ). drop k bytes) p), cc)
 
 only_high : (low high : ℕ) (ns : List ℕ) → all (within low high) ns ≡ true → only ns ≤ high
 only_high low high [] h = omega arith

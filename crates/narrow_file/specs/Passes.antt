@@ -5,8 +5,7 @@ use Rattle.refusals.specs.Said.{number_of}
 use Rattle.refusals.specs.First.{choose}
 use Rattle.layout.specs.Bytes.{Class, digit, comma, equals, line_end, letter, other, class_of}
 use Rattle.layout.specs.Line.{Outcome, fault, found}
-use Rattle.layout.specs.Reading.{Reading, file, refused_at}
-use Rattle.layout.specs.Reading.{only}
+use Rattle.layout.specs.Reading.{Reading, file, refused_at, only}
 use Rattle.file_line.specs.declared.line.Word.{Word}
 use Rattle.file_line.specs.declared.line.Wanted.{Wanted}
 use Rattle.file_line.specs.declared.line.Fault.{Fault}
