@@ -2,76 +2,75 @@
 ghost use Rattle.std.specs.Prelude.{◌≡◌, ◌∷◌, ◌++◌, suc, ◌*◌, ◌≤◌, length};
 ghost use Rattle.refusals.specs.Limits.{max_vars, max_degree};
 ghost use Rattle.refusals.specs.First.{first, given, either, outside};
+ghost use Rattle.refusals.specs.Said.{number_said};
 ghost use Rattle.sumcheck.specs.Lent.{parts, messages_length, not_long};
 ghost use Rattle.sumcheck.specs.Protocol.{rounds};
 ghost use Rattle.sumcheck.specs.Entries.{rounds_rules, rounds_answer};
 ghost use Rattle.narrow_field.specs.Narrow.{p};
 ghost use Rattle.narrow_checker.specs.Said.{said_rounds};
 
-use super::Rounds;
+use super::Failure;
 use narrow_array::round::{coefficients, sum_fits, value_at};
 use narrow_field::field;
 use narrow_lent::judge;
 use narrow_lent::lengths::{messages_length, wide};
+use refusals::Refusal;
 
 // Whether challenges or messages are not of the exact length.
 pub(crate) fn is_not_long(vars: u32, degree: u32, challenges: &[u32], messages: &[u32]) -> bool
     ensures { result ≡ either (not_long vars challenges.now) (not_long (messages_length vars degree) messages.now) }
 {
-    if challenges.len() != wide(vars) {
-        return true;
-    }
-    messages.len() != messages_length(vars, degree)
+    challenges.len() != wide(vars) || messages.len() != messages_length(vars, degree)
 }
 
 // Whether some number of claim, challenges and messages is no element.
+#[tactic(auto, using(crate::proofs::Lists::lists))]
 pub(crate) fn is_outside(claim: u32, challenges: &[u32], messages: &[u32]) -> bool
     ensures { result ≡ outside p (claim ∷ challenges.now ++ messages.now) }
 {
-    if field::is_outside(claim) {
-        return true;
-    }
-    if judge::is_outside(challenges) {
-        return true;
-    }
-    judge::is_outside(messages)
+    field::is_outside(claim) || judge::is_outside(challenges) || judge::is_outside(messages)
 }
 
-// The number of the refusal without tables; 0 if none.
-fn rounds_refusal(vars: u32, degree: u32, claim: u32, challenges: &[u32], messages: &[u32]) -> u32
-    ensures { result ≡ first (rounds_rules p vars degree claim challenges.now messages.now) }
+// The refusals without tables.
+fn rounds_refusal(
+    vars: u32,
+    degree: u32,
+    claim: u32,
+    challenges: &[u32],
+    messages: &[u32],
+) -> Result<(), Refusal>
+    ensures { number_said result ≡ first (rounds_rules p vars degree claim challenges.now messages.now) }
 {
-    let shape = judge::shape(vars, degree);
-    if shape != 0 {
-        return shape;
-    }
+    judge::shape(vars, degree)?;
     if is_not_long(vars, degree, challenges, messages) {
-        return 3;
+        return Err(Refusal::WrongLength);
     }
     if is_outside(claim, challenges, messages) {
-        return 5;
+        return Err(Refusal::NoElement);
     }
-    0
+    Ok(())
 }
 
 // The rounds one after the other: each message, of so many coefficients, is one array value that is judged and then put at its challenge.
-pub(crate) fn walk(width: usize, claim: u32, challenges: &[u32], messages: &[u32]) -> Rounds
+pub(crate) fn walk(
+    width: usize,
+    claim: u32,
+    challenges: &[u32],
+    messages: &[u32],
+) -> Result<u32, Failure>
     requires { (length challenges.now ≤ max_vars) × (width ≤ suc max_degree) × (length challenges.now * width ≡ length messages.now) }
     ensures { said_rounds result ≡ given (rounds p claim challenges.now (parts (length challenges.now) width messages.now)) }
 {
     let mut running = claim;
-    let mut taken: usize = 0;
-    while taken < challenges.len() {
+    for (taken, &challenge) in challenges.iter().enumerate() {
         let start = taken * width;
-        let end = start + width;
-        let c = coefficients(&messages[start..end]);
+        let c = coefficients(&messages[start..start + width]);
         if !sum_fits(c, running) {
-            return Rounds::Rejected(taken as u32 + 1);
+            return Err(Failure::Rejected(taken as u32 + 1));
         }
-        running = value_at(c, challenges[taken]);
-        taken += 1;
+        running = value_at(c, challenge);
     }
-    Rounds::Reached(running)
+    Ok(running)
 }
 
 // The form without tables: the last value in place of the final check.
@@ -81,12 +80,9 @@ pub fn check_rounds(
     claim: u32,
     challenges: &[u32],
     messages: &[u32],
-) -> Rounds
+) -> Result<u32, Failure>
     ensures { said_rounds result ≡ rounds_answer p vars degree claim challenges.now messages.now }
 {
-    let number = rounds_refusal(vars, degree, claim, challenges, messages);
-    if number != 0 {
-        return Rounds::Refused(number);
-    }
+    rounds_refusal(vars, degree, claim, challenges, messages)?;
     walk(wide(degree) + 1, claim, challenges, messages)
 }

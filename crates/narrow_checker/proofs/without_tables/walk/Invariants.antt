@@ -1,11 +1,7 @@
 -- `narrow_checker::without_tables::walk`: so many rounds are taken, and the running claim is theirs.
-use Rattle.std.proofs.Common.{◌-◌, ◌≤◌, length}
 use Rattle.sumcheck.proofs.Walk.{Walked}
 use Rattle.narrow_field.specs.Narrow.{p}
 use Rattle.narrow_checker.proofs.without_tables.walk.Given as goal
 
 abbrev pub invariant-loop-taken : goal.invariant-loop-taken
-invariant-loop-taken l = (l.taken ≤ length l.challenges) × Walked p l.fn.claim l.challenges l.fn.width l.messages l.taken l.running
-
-abbrev pub decreases-loop-taken : goal.decreases-loop-taken
-decreases-loop-taken l = length l.challenges - l.taken
+invariant-loop-taken l = Walked p l.fn.claim l.challenges l.width l.messages l.taken l.running
