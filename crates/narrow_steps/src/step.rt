@@ -2,103 +2,73 @@
 // on the running claim, 7, then 3 and 5 on what is given.
 ghost use Rattle.std.specs.Prelude.{◌≡◌};
 ghost use Rattle.refusals.specs.First.{first, either};
+ghost use Rattle.refusals.specs.Said.{number_said};
 ghost use Rattle.sumcheck.specs.Steps.{forged, over, step_rules, step};
 ghost use Rattle.narrow_field.specs.Narrow.{p};
 ghost use Rattle.narrow_steps.specs.Said.{state_of, said_stepped};
 
-use super::state::{State, doubt, is_forged, is_over};
+use super::state::{Back, State};
 use narrow_array::round::{coefficients, sum_fits, value_at};
+use narrow_checker::Failure;
 use narrow_field::field::is_outside;
 use narrow_lent::judge;
 use narrow_lent::lengths::wide;
-
-// A step's round: its sum fits, or it rejects, with its round.
-#[derive(Clone, Copy)]
-pub enum Step {
-    Fits,
-    Rejects(u32),
-    Refused(u32),
-}
-
-// What a step hands back: the state, and its outcome.
-#[derive(Clone, Copy)]
-pub struct Stepped {
-    pub state: State,
-    pub outcome: Step,
-}
-
-// Whether a step is refused by 7.
-fn is_shut(state: State) -> bool
-    ensures { result ≡ either (forged (state_of state)) (over (state_of state)) }
-{
-    if is_forged(state) {
-        true
-    } else {
-        is_over(state)
-    }
-}
-
-// The number of a step's refusal; 0 if none.
-fn step_refusal(state: State, message: &[u32], challenge: u32) -> u32
-    ensures { result ≡ first (step_rules p (state_of state) message.now challenge) }
-{
-    let doubts = doubt(state.vars, state.degree, state.claim);
-    let shut = is_shut(state);
-    if doubts != 0 {
-        return doubts;
-    }
-    if shut {
-        return 7;
-    }
-    if message.len() != wide(state.degree) + 1 {
-        return 3;
-    }
-    if is_outside(challenge) {
-        return 5;
-    }
-    if judge::is_outside(message) {
-        return 5;
-    }
-    0
-}
+use refusals::Refusal;
 
 impl State {
-    // One round: its message and its challenge.
-    pub fn step(self, message: &[u32], challenge: u32) -> Stepped
+    // Whether a step is refused by 7.
+    fn is_shut(self) -> bool
+        ensures { result ≡ either (forged (state_of self)) (over (state_of self)) }
+    {
+        self.is_forged() || self.is_over()
+    }
+
+    // The refusals of a step.
+    fn step_refusal(self, message: &[u32], challenge: u32) -> Result<(), Refusal>
+        ensures { number_said result ≡ first (step_rules p (state_of self) message.now challenge) }
+    {
+        self.doubt()?;
+        if self.is_shut() {
+            return Err(Refusal::StateForbids);
+        }
+        if message.len() != wide(self.degree) + 1 {
+            return Err(Refusal::WrongLength);
+        }
+        if is_outside(challenge) || judge::is_outside(message) {
+            return Err(Refusal::NoElement);
+        }
+        Ok(())
+    }
+
+    // One round: its message and its challenge. A rejecting step sets the mark and changes nothing else.
+    pub fn step(self, message: &[u32], challenge: u32) -> Back<Result<(), Failure>>
         ensures { said_stepped result ≡ step p (state_of self) message.now challenge }
     {
-        let number = step_refusal(self, message, challenge);
-        if number != 0 {
-            let unchanged = self;
-            return Stepped {
-                state: unchanged,
-                outcome: Step::Refused(number),
+        if let Err(refusal) = self.step_refusal(message, challenge) {
+            return Back {
+                state: self,
+                outcome: Err(Failure::Refused(refusal)),
             };
         }
         let c = coefficients(message);
         let round = self.taken + 1;
         if sum_fits(c, self.claim) {
             let claim = value_at(c, challenge);
-            return Stepped {
+            return Back {
                 state: State {
-                    vars: self.vars,
-                    degree: self.degree,
                     taken: round,
                     claim,
-                    rejected: false,
+                    ..self
                 },
-                outcome: Step::Fits,
+                outcome: Ok(()),
             };
         }
-        Stepped {
+        Back {
             state: State {
-                vars: self.vars,
-                degree: self.degree,
-                taken: self.taken,
-                claim: self.claim,
                 rejected: true,
+                ..self
             },
-            outcome: Step::Rejects(round),
+            outcome: Err(Failure::Rejected(round)),
         }
     }
 }
