@@ -2,11 +2,14 @@
 use Rattle.std.specs.Prelude.{Bool, true, false, not, ℕ, eqb}
 use Rattle.refusals.specs.First as First
 use Rattle.refusals.specs.First.{refused, given}
+use Rattle.refusals.specs.Said.{number_of}
+use Rattle.narrow_checker.specs.declared.failure.Failure.{Failure}
+use Rattle.narrow_checker.specs.declared.failure.Failure.TheVariants.{Rejected, Refused}
 use Rattle.sumcheck.specs.Protocol as Protocol
 use Rattle.sumcheck.specs.Protocol.{accepted, rejected, reached, failed}
 use Rattle.sumcheck.specs.Steps as Steps
 use Rattle.sumcheck.specs.Steps.{Back, Judged, fitted, rejects, Opened, opened}
-use Rattle.narrow_file.specs.Narrow.{Head, head, refusal}
+use Rattle.narrow_file.specs.Narrow.{Reply, head, refusal}
 use Rattle.coded.specs.declared.Answer.{Answer}
 use Rattle.coded.specs.declared.State.{State}
 use Rattle.coded.specs.declared.Stepped.{Stepped}
@@ -21,6 +24,11 @@ with_round j = record { kind = 1; number = j; line = 0; value = 0 }
 
 abbrev pub turned_down : ℕ → Answer
 turned_down number = record { kind = 2; number = number; line = 0; value = 0 }
+
+-- what fails: a rejecting round, or a refusal
+abbrev pub of_failure : Failure → Answer
+of_failure (Rejected j) = with_round j
+of_failure (Refused why) = turned_down (number_of why)
 
 -- a number; done; a verdict; what the rounds come to; opening; a step
 abbrev pub of_number : First.Answer ℕ → Answer
@@ -68,6 +76,6 @@ abbrev pub of_stepped : Back Judged → Stepped
 of_stepped b = record { state = of_state b.state; answer = of_step b.outcome }
 
 -- a file's head
-abbrev pub of_head : Head → File
+abbrev pub of_head : Reply → File
 of_head (head vars degree claim) = record { kind = 0; number = 0; line = 0; vars = vars; degree = degree; claim = claim }
 of_head (refusal number line) = record { kind = 2; number = number; line = line; vars = 0; degree = 0; claim = 0 }

@@ -1,7 +1,7 @@
-// Answers in numbers, as they cross to other languages: the structs, and `code`, which writes each answer of the library down as one of them.
+// Answers in numbers, as they cross to other languages: the structs, and in `code` how each answer of the library is converted to one of them.
 #![tactic(auto)]
 
-pub mod code;
+mod code;
 
 // An answer in numbers. kind 0: given, done, accepted or reached, with the value where there is one; 1: rejected, number is the round; 2: refused,
 // number is the refusal, line its line where it has one.
