@@ -6,7 +6,6 @@ ghost use Rattle.sumcheck.specs.Part.{part_refusal, part_start, part_length};
 ghost use Rattle.narrow_field.specs.Narrow.{p};
 ghost use Rattle.coded.specs.Coded.{of_verdict, of_rounds, of_opened, of_stepped, state_of};
 
-use coded::code::{from_state, of_opened, of_rounds, of_stepped, of_verdict};
 use coded::{Answer, Part, State, Stepped};
 use narrow_checker::whole::check;
 use narrow_checker::without_tables::check_rounds;
@@ -24,7 +23,7 @@ pub extern "C" fn sendurafi_check(
 ) -> Answer
     ensures { result ≡ of_verdict (checker_answer p vars degree tables.now claim challenges.now messages.now) }
 {
-    of_verdict(check(vars, degree, tables, claim, challenges, messages))
+    check(vars, degree, tables, claim, challenges, messages).into()
 }
 
 // The checker without tables.
@@ -38,7 +37,7 @@ pub extern "C" fn sendurafi_check_rounds(
 ) -> Answer
     ensures { result ≡ of_rounds (rounds_answer p vars degree claim challenges.now messages.now) }
 {
-    of_rounds(check_rounds(vars, degree, claim, challenges, messages))
+    check_rounds(vars, degree, claim, challenges, messages).into()
 }
 
 // The first state of a checker in steps.
@@ -46,7 +45,7 @@ pub extern "C" fn sendurafi_check_rounds(
 pub extern "C" fn sendurafi_open(vars: u32, degree: u32, claim: u32) -> Stepped
     ensures { result ≡ of_opened (opening p vars degree claim) }
 {
-    of_opened(narrow_steps::state::State::open(vars, degree, claim))
+    narrow_steps::state::State::open(vars, degree, claim).into()
 }
 
 // One step.
@@ -54,8 +53,8 @@ pub extern "C" fn sendurafi_open(vars: u32, degree: u32, claim: u32) -> Stepped
 pub extern "C" fn sendurafi_step(state: State, message: &[u32], challenge: u32) -> Stepped
     ensures { result ≡ of_stepped (step p (state_of state) message.now challenge) }
 {
-    let s = from_state(state);
-    of_stepped(s.step(message, challenge))
+    let s = narrow_steps::state::State::from(state);
+    s.step(message, challenge).into()
 }
 
 // The end of a checker in steps.
@@ -63,10 +62,8 @@ pub extern "C" fn sendurafi_step(state: State, message: &[u32], challenge: u32) 
 pub extern "C" fn sendurafi_close(state: State, value: u32) -> Answer
     ensures { result ≡ of_verdict (closing p (state_of state) value).outcome }
 {
-    let s = from_state(state);
-    let closed = s.close(value);
-    let outcome = closed.outcome;
-    of_verdict(outcome)
+    let s = narrow_steps::state::State::from(state);
+    s.close(value).outcome.into()
 }
 
 // The number of the round part's refusal; 0 if none.
@@ -79,7 +76,10 @@ pub extern "C" fn sendurafi_round_part_refusal(
 ) -> u32
     ensures { result ≡ part_refusal vars degree messages.now round }
 {
-    round_part_refusal(vars, degree, messages, round)
+    match round_part_refusal(vars, degree, messages, round) {
+        Ok(()) => 0,
+        Err(refusal) => refusal.into(),
+    }
 }
 
 // Where the round part starts in the caller's list, and how long it is.

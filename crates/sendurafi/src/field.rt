@@ -4,14 +4,13 @@ ghost use Rattle.narrow_field.specs.Field.{sum_of, difference_of, negative_of, p
 ghost use Rattle.coded.specs.Coded.{of_number};
 
 use coded::Answer;
-use coded::code::of_number;
 
 // a + b.
 #[unsafe(no_mangle)]
 pub extern "C" fn sendurafi_sum(a: u32, b: u32) -> Answer
     ensures { result ≡ of_number (sum_of a b) }
 {
-    of_number(narrow_field::field::sum(a, b))
+    narrow_field::field::sum(a, b).into()
 }
 
 // a - b.
@@ -19,7 +18,7 @@ pub extern "C" fn sendurafi_sum(a: u32, b: u32) -> Answer
 pub extern "C" fn sendurafi_difference(a: u32, b: u32) -> Answer
     ensures { result ≡ of_number (difference_of a b) }
 {
-    of_number(narrow_field::field::difference(a, b))
+    narrow_field::field::difference(a, b).into()
 }
 
 // -a.
@@ -27,7 +26,7 @@ pub extern "C" fn sendurafi_difference(a: u32, b: u32) -> Answer
 pub extern "C" fn sendurafi_negative(a: u32) -> Answer
     ensures { result ≡ of_number (negative_of a) }
 {
-    of_number(narrow_field::field::negative(a))
+    narrow_field::field::negative(a).into()
 }
 
 // a · b.
@@ -35,7 +34,7 @@ pub extern "C" fn sendurafi_negative(a: u32) -> Answer
 pub extern "C" fn sendurafi_product(a: u32, b: u32) -> Answer
     ensures { result ≡ of_number (product_of a b) }
 {
-    of_number(narrow_field::field::product(a, b))
+    narrow_field::field::product(a, b).into()
 }
 
 // a to the power e.
@@ -43,7 +42,7 @@ pub extern "C" fn sendurafi_product(a: u32, b: u32) -> Answer
 pub extern "C" fn sendurafi_power(a: u32, e: u64) -> Answer
     ensures { result ≡ of_number (power_of a e) }
 {
-    of_number(narrow_field::field::power(a, e))
+    narrow_field::field::power(a, e).into()
 }
 
 // The inverse of a.
@@ -51,5 +50,5 @@ pub extern "C" fn sendurafi_power(a: u32, e: u64) -> Answer
 pub extern "C" fn sendurafi_inverse(a: u32) -> Answer
     ensures { result ≡ of_number (inverse_of a) }
 {
-    of_number(narrow_field::inverse::inverse(a))
+    narrow_field::inverse::inverse(a).into()
 }

@@ -5,7 +5,6 @@ ghost use Rattle.narrow_field.specs.Narrow.{p};
 ghost use Rattle.coded.specs.Coded.{of_number, of_done};
 
 use coded::Answer;
-use coded::code::{of_number, of_proof};
 use narrow_prover::prove::prove;
 use narrow_tables::sum::true_sum;
 use narrow_tables::value::value_at;
@@ -15,7 +14,7 @@ use narrow_tables::value::value_at;
 pub extern "C" fn sendurafi_true_sum(vars: u32, degree: u32, tables: &[u32]) -> Answer
     ensures { result ≡ of_number (sum_answer p vars degree tables.now) }
 {
-    of_number(true_sum(vars, degree, tables))
+    true_sum(vars, degree, tables).into()
 }
 
 // The value of f at a point.
@@ -28,7 +27,7 @@ pub extern "C" fn sendurafi_value_at(
 ) -> Answer
     ensures { result ≡ of_number (value_answer p vars degree tables.now point.now) }
 {
-    of_number(value_at(vars, degree, tables, point))
+    value_at(vars, degree, tables, point).into()
 }
 
 // The prover.
@@ -45,5 +44,5 @@ pub extern "C" fn sendurafi_prove(
         × ((messages.new ≡ messages_after p vars degree tables.now challenges.now messages.old scratch.old)
         × (scratch.new ≡ scratch_after p vars degree tables.now challenges.now messages.old scratch.old)) }
 {
-    of_proof(prove(vars, degree, tables, challenges, messages, scratch))
+    prove(vars, degree, tables, challenges, messages, scratch).into()
 }
