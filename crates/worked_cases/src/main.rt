@@ -4,22 +4,19 @@
 
 mod show;
 
-use narrow_checker::Rounds;
 use narrow_checker::whole::check;
 use narrow_checker::without_tables::check_rounds;
-use narrow_field::Answer;
-use narrow_file::{Reply, read};
-use narrow_prover::Proof;
+use narrow_file::read;
 use narrow_prover::prove::prove;
 use narrow_steps::state::State;
 use narrow_tables::sum::true_sum;
-use show::{list, number, verdict};
+use show::{Verdict, line, list};
 use std::io;
 
 // P7, the sum.
 fn sum(rt: &impl Print, tables: &[u32]) -> io::Result<()> {
-    if let Answer::Given(x) = true_sum(2, 2, tables) {
-        number(rt, x)?;
+    if let Ok(x) = true_sum(2, 2, tables) {
+        line(rt, x)?;
     }
     Ok(())
 }
@@ -28,7 +25,7 @@ fn sum(rt: &impl Print, tables: &[u32]) -> io::Result<()> {
 fn prover(rt: &impl Print, tables: &[u32], challenges: &[u32]) -> io::Result<()> {
     let mut messages = [8u32; 7];
     let mut scratch = [9u32; 10];
-    if let Proof::Done = prove(2, 2, tables, challenges, &mut messages, &mut scratch) {
+    if prove(2, 2, tables, challenges, &mut messages, &mut scratch).is_ok() {
         list(rt, &messages)?;
         list(rt, &scratch)?;
     }
@@ -43,9 +40,12 @@ fn checker(
     challenges: &[u32],
     messages: &[u32],
 ) -> io::Result<()> {
-    verdict(rt, check(2, 2, tables, claim, challenges, messages))?;
-    if let Rounds::Reached(x) = check_rounds(2, 2, claim, challenges, messages) {
-        number(rt, x)?;
+    line(
+        rt,
+        Verdict(check(2, 2, tables, claim, challenges, messages)),
+    )?;
+    if let Ok(x) = check_rounds(2, 2, claim, challenges, messages) {
+        line(rt, x)?;
     }
     Ok(())
 }
@@ -53,17 +53,10 @@ fn checker(
 // The file, and P9 with what was read.
 fn file(rt: &impl Print, tables: &[u32], challenges: &[u32], bytes: &[u8]) -> io::Result<()> {
     let mut messages = [8u32; 6];
-    if let Reply::File {
-        vars,
-        degree,
-        claim,
-    } = read(bytes, &mut messages)
-    {
-        number(rt, vars)?;
-        number(rt, degree)?;
-        number(rt, claim)?;
+    if let Ok(head) = read(bytes, &mut messages) {
+        list(rt, &[head.vars, head.degree, head.claim])?;
         list(rt, &messages)?;
-        checker(rt, tables, claim, challenges, &messages)?;
+        checker(rt, tables, head.claim, challenges, &messages)?;
     }
     Ok(())
 }
@@ -85,30 +78,24 @@ fn one_table(
     messages: &[u32],
 ) -> io::Result<()> {
     println!(rt; "P10, P11")?;
-    verdict(rt, check(2, 1, table, 11, lucky, messages))?;
-    verdict(rt, check(2, 1, table, 11, other, messages))
+    line(rt, Verdict(check(2, 1, table, 11, lucky, messages)))?;
+    line(rt, Verdict(check(2, 1, table, 11, other, messages)))
 }
 
 // P11 in steps: the running claim after round 1, and what closing says after round 2.
 fn steps(rt: &impl Print, one: &[u32], two: &[u32]) -> io::Result<()> {
     println!(rt; "P11 in steps")?;
-    let opened = State::open(2, 1, 11);
-    let start = opened.state;
-    let first = start.step(one, 5);
-    let next = first.state;
-    number(rt, next.claim)?;
-    let second = next.step(two, 9);
-    let last = second.state;
-    let closed = last.close(0);
-    let end = closed.outcome;
-    verdict(rt, end)
+    let first = State::open(2, 1, 11).state.step(one, 5).state;
+    line(rt, first.claim)?;
+    let second = first.step(two, 9).state;
+    line(rt, Verdict(second.close(0).outcome))
 }
 
 // P12.
 fn no_variables(rt: &impl Print, tables: &[u32], none: &[u32]) -> io::Result<()> {
     println!(rt; "P12")?;
-    verdict(rt, check(0, 2, tables, 35, none, none))?;
-    verdict(rt, check(0, 2, tables, 36, none, none))
+    line(rt, Verdict(check(0, 2, tables, 35, none, none)))?;
+    line(rt, Verdict(check(0, 2, tables, 36, none, none)))
 }
 
 fn main(rt: HostRuntime) -> io::Result<()> {
