@@ -1,7 +1,9 @@
-// The checker over the narrow field (document 01): `whole` has it in one call, `without_tables` without them, `failure` what keeps either from a good end.
+// The checker over the narrow field (document 01): `whole` has it in one call, `without_tables` without them, `sent` what both are sent, `failure` what keeps
+// either from a good end.
 #![tactic(auto)]
 
 mod failure;
+mod sent;
 pub mod whole;
 pub mod without_tables;
 

@@ -8,36 +8,30 @@ ghost use Rattle.narrow_field.specs.Narrow.{p};
 ghost use Rattle.narrow_checker.specs.Said.{said};
 
 use super::Failure;
-use super::without_tables::{is_not_long, is_outside, walk};
+use super::sent::Sent;
 use narrow_lent::lengths::wide;
 use narrow_lent::tables::Tables;
 use narrow_tables::value::f_at;
 use refusals::Refusal;
 
-// Whether some number of tables, claim, challenges and messages is no element.
+// Whether some number of tables and of what is sent is no element.
 #[tactic(auto, using(crate::proofs::Lists::lists))]
-fn some_outside(tables: Tables, claim: u32, challenges: &[u32], messages: &[u32]) -> bool
-    ensures { result ≡ outside p (tables.entry.numbers.now ++ (claim ∷ challenges.now ++ messages.now)) }
+fn some_outside(tables: Tables, sent: Sent) -> bool
+    ensures { let s = sent.entry in result ≡ outside p (tables.entry.numbers.now ++ (s.claim ∷ s.challenges.now ++ s.messages.now)) }
 {
-    tables.is_outside() || is_outside(claim, challenges, messages)
+    tables.is_outside() || sent.is_outside()
 }
 
 // The refusals with tables.
-fn check_refusal(
-    vars: u32,
-    degree: u32,
-    tables: &[u32],
-    claim: u32,
-    challenges: &[u32],
-    messages: &[u32],
-) -> Result<(), Refusal>
-    ensures { number_said result ≡ first (checker_rules p vars degree tables.now claim challenges.now messages.now) }
+fn check_refusal(vars: u32, degree: u32, tables: &[u32], sent: Sent) -> Result<(), Refusal>
+    ensures { let s = sent.entry in
+        number_said result ≡ first (checker_rules p vars degree tables.now s.claim s.challenges.now s.messages.now) }
 {
     let lent = Tables::lent(vars, degree, tables)?;
-    if is_not_long(vars, degree, challenges, messages) {
+    if sent.is_not_long(vars, degree) {
         return Err(Refusal::WrongLength);
     }
-    if some_outside(lent, claim, challenges, messages) {
+    if some_outside(lent, sent) {
         return Err(Refusal::NoElement);
     }
     Ok(())
@@ -64,7 +58,12 @@ pub fn check(
 ) -> Result<(), Failure>
     ensures { said result ≡ checker_answer p vars degree tables.now claim challenges.now messages.now }
 {
-    check_refusal(vars, degree, tables, claim, challenges, messages)?;
-    let last = walk(wide(degree) + 1, claim, challenges, messages)?;
+    let sent = Sent {
+        claim,
+        challenges,
+        messages,
+    };
+    check_refusal(vars, degree, tables, sent)?;
+    let last = sent.walk(wide(degree) + 1)?;
     final_check(vars, last, f_at(vars, degree, tables, challenges))
 }

@@ -1,4 +1,4 @@
--- `narrow_checker::without_tables::walk` meets its contract: so many rounds are taken, and the running claim is theirs. Assumes nothing.
+-- `narrow_checker::sent::Sent::walk` meets its contract: so many rounds are taken, and the running claim is theirs. Assumes nothing.
 use Rattle.std.proofs.Common.{◌≡◌, ℕ, suc, ◌+◌, ◌-◌, ◌*◌, ◌≤◌, List, length, take, drop, sym, ap, ◌∙◌}
 use native.Mathlib.Omega.{arith}
 use native.Mathlib.Numerals.{add-one}
@@ -10,7 +10,7 @@ use Rattle.polynomial.specs.Array.{padded}
 use Rattle.sumcheck.specs.Protocol.{fits, failed}
 use Rattle.sumcheck.proofs.Walk.{message_at, message_short, message_part, array_value, array_fits, walked_more, walked_failed}
 use Rattle.narrow_field.specs.Narrow.{p}
-use Rattle.narrow_checker.proofs.without_tables.walk.Goals as goal
+use Rattle.narrow_checker.proofs.sent.Sent.walk.Goals as goal
 
 -- the array that a round's message travels as has that message's sum and its values
 module _ (width : ℕ) (messages : List ℕ) (j : ℕ) (cs : List ℕ)
@@ -31,18 +31,18 @@ pub returns-then-not-sum_fits : goal.returns-then-not-sum_fits
 returns-then-not-sum_fits c =
     let a = c.args in
     let l = c.loop-taken in
-    let fit = c.sum_fits.ensures ∙ judged a.width a.messages.now l.taken c.coefficients-c.result c.coefficients-c.ensures c.requires.1 l.running in
+    let fit = c.sum_fits.ensures ∙ judged a.width a.self.messages.now l.taken c.coefficients-c.result c.coefficients-c.ensures c.requires.1 l.running in
     ap given
     (ap failed (add-one l.taken)
-    ∙ walked_failed p a.claim a.challenges.now a.width a.messages.now l.taken l.running c.loop-taken-test.true l.invariant
+    ∙ walked_failed p a.self.claim a.self.challenges.now a.width a.self.messages.now l.taken l.running c.loop-taken-test.true l.invariant
     (sym fit ∙ c.if-not-sum_fits.true))
 
 pub loop-taken-preserved : goal.loop-taken-preserved
 loop-taken-preserved c =
     let a = c.args in
     let l = c.loop-taken in
-    let fit = c.sum_fits.ensures ∙ judged a.width a.messages.now l.taken c.coefficients-c.result c.coefficients-c.ensures c.requires.1 l.running in
-    walked_more p a.claim a.challenges.now a.width a.messages.now l.taken l.running c.value_at-running.result c.loop-taken-test.true l.invariant
+    let fit = c.sum_fits.ensures ∙ judged a.width a.self.messages.now l.taken c.coefficients-c.result c.coefficients-c.ensures c.requires.1 l.running in
+    walked_more p a.self.claim a.self.challenges.now a.width a.self.messages.now l.taken l.running c.value_at-running.result c.loop-taken-test.true l.invariant
     (sym fit ∙ c.if-not-sum_fits.false)
     (c.value_at-running.ensures
-    ∙ put a.width a.messages.now l.taken c.coefficients-c.result c.coefficients-c.ensures c.requires.1 (get_or a.challenges.now l.taken 0))
+    ∙ put a.width a.self.messages.now l.taken c.coefficients-c.result c.coefficients-c.ensures c.requires.1 (get_or a.self.challenges.now l.taken 0))
