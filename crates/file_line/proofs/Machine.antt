@@ -42,7 +42,8 @@ module _ (w : Wanted) (word : List ℕ) where
   ran size state [] = refl
   ran size state (b ∷ s) = go (eqb b 10) refl (ran size (step_of w word b (class_of b) state) s)
     where
-      go : (t : Bool) → eqb b 10 ≡ t → run_of size w word (step_of w word b (class_of b) state) s ≡ on_cut size (step_of w word b (class_of b) state) (first_line s)
+      go : (t : Bool) → eqb b 10 ≡ t
+          → run_of size w word (step_of w word b (class_of b) state) s ≡ on_cut size (step_of w word b (class_of b) state) (first_line s)
           → run_of size w word state (b ∷ s) ≡ on_cut size state (first_line (b ∷ s))
       go true e ih = rw e
       go false e ih = rw e (ih ∙ on_longer size state b (first_line s))

@@ -125,7 +125,8 @@ bare_then (found ns rest) next = bare-before ns (next rest)
 
 -- the rounds from some line on: one more, or none
 pub round_read : (vars degree n : ℕ) (s : List ℕ) → n < vars + 6 → bare (lines_at n (vars + 6 - n) (round_line narrow degree) s)
-    ≡ then_rest (lasts (line_at n (line_wanted (round_wanted n degree)) s)) (λ rest. bare (lines_at (n + 1) (vars + 6 - (n + 1)) (round_line narrow degree) rest))
+    ≡ then_rest (lasts (line_at n (line_wanted (round_wanted n degree)) s))
+    (λ rest. bare (lines_at (n + 1) (vars + 6 - (n + 1)) (round_line narrow degree) rest))
 unfolding lines_at
 round_read vars degree n s h =
     let e : vars + 6 - n ≡ suc (vars + 6 - (n + 1)) = omega arith in

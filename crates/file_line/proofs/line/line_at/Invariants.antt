@@ -8,4 +8,5 @@ use Rattle.file_line.proofs.line.line_at.Given as goal
 
 abbrev pub invariant-loop-i : goal.invariant-loop-i
 invariant-loop-i l =
-    run_of (length l.bytes) l.wanted (letters l.wanted.word) l.state (drop l.i l.rest) ≡ brief (length l.bytes) (line_at l.wanted.line (line_wanted l.wanted) l.rest)
+    run_of (length l.bytes) l.wanted (letters l.wanted.word) l.state (drop l.i l.rest)
+    ≡ brief (length l.bytes) (line_at l.wanted.line (line_wanted l.wanted) l.rest)
