@@ -1,4 +1,5 @@
-// Answers in numbers, as they cross to other languages: the structs, and in `code` how each answer of the library is converted to one of them.
+// Answers in numbers, as they cross to other languages, since C takes neither enums with values nor results: the structs, and in `code` how each answer
+// of the library is converted to one of them.
 #![tactic(auto)]
 
 mod code;

@@ -8,7 +8,7 @@ use super::line::Wanted;
 use super::state::State;
 
 // A number that is being read: its digits so far and their value, how many commas are still to come, and whether it may be allowed:
-// each number before it is, and it fits in 64 bits.
+// each number before it is, and it fits in 64 bits. So `allowed` is no part of the value: it speaks of the numbers before this one too.
 #[derive(Clone, Copy, Debug, PartialEq, Eq)]
 pub(crate) struct Number {
     pub digits: u32,

@@ -43,6 +43,7 @@ impl Sent<'_> {
             let start = taken * width;
             let c = coefficients(&self.messages[start..start + width]);
             if !sum_fits(c, running) {
+                // It fits: there are few rounds.
                 return Err(Failure::Rejected(taken as u32 + 1));
             }
             running = value_at(c, challenge);

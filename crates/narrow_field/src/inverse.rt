@@ -9,7 +9,7 @@ use super::P;
 use super::modulo::{less, times};
 use refusals::Refusal;
 
-// The inverse of a, which is no 0. Each remainder is a times its coefficient, modulo p.
+// The inverse of a, which is no 0. Each remainder is a times its coefficient, modulo p. It ends at the remainder 1, and no place is counted.
 fn inverse_of(a: u32) -> u32
     requires { (0 < a) × (a < p) }
     ensures { result ≡ inverse p a }

@@ -3,10 +3,10 @@ ghost use Rattle.std.specs.Prelude.{◌≡◌, ◌+◌, ◌*◌, ◌/◌, ◌%�
 ghost use Rattle.arithmetic.specs.Modulo.{add, sub, neg, mul, pow};
 ghost use Rattle.narrow_field.specs.Narrow.{p};
 
-// The modulus as a u64.
+// The modulus as a u64. A constant cannot be made by `u64::from`.
 const P: u64 = super::P as u64;
 
-// x modulo p.
+// x modulo p. What is left fits, so `as` it is: `try_from` would test it at every sum and product.
 fn reduced(x: u64) -> u32
     ensures { result ≡ x % p }
 {
@@ -60,7 +60,7 @@ fn with_digit(done: u32, base: u32, left: u64) -> u32
     }
 }
 
-// a to the power e modulo p, by squaring: at most 64 rounds.
+// a to the power e modulo p, by squaring: at most 64 rounds, until no digit is left. No place is counted.
 pub fn to_power(a: u32, e: u64) -> u32
     ensures { result ≡ pow p a e }
 {

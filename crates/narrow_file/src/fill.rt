@@ -19,6 +19,7 @@ fn with_digit(value: u32, b: u8) -> u32
 pub(crate) fn fill(rounds: &[u8], messages: &mut [u32])
     ensures { messages.new ≡ put (take (length messages.old) (collect 0 rounds.now)) messages.old }
 {
+    // Counted by hand: a place is filled only where a number ends.
     let mut filled = 0;
     let mut value = 0;
     for &b in rounds {

@@ -20,7 +20,7 @@ pub struct Head {
 }
 
 impl Head {
-    // How many coefficients the rounds of a file have.
+    // How many coefficients the rounds of a file have. A `usize` has no `From<u32>`.
     fn places(self) -> usize
         ensures { result ≡ self.vars * (self.degree + 1) }
     {

@@ -49,6 +49,7 @@ fn number(bytes: &[u8], line: u32, word: Word, low: u32, high: u32) -> Result<(u
         high: u64::from(high),
     };
     let (last, rest) = one_line(bytes, wanted)?;
+    // It fits, being at most `high`.
     Ok((last as u32, rest))
 }
 

@@ -5,7 +5,7 @@ ghost use Rattle.sumcheck.specs.Lent.{messages_length};
 
 use refusals::MAX_VARS;
 
-// x as a usize.
+// x as a usize, which has no `From<u32>`.
 pub fn wide(x: u32) -> usize
     ensures { result ≡ x }
 {

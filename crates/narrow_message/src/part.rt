@@ -27,7 +27,7 @@ pub fn round_part_refusal(
     Ok(())
 }
 
-// Where round j's part starts, (j-1)(k+1); 0 where refused.
+// Where round j's part starts, (j-1)(k+1); 0 where refused, as `part_start` has it: C is told the refusal by itself.
 pub fn round_part_start(vars: u32, degree: u32, messages: &[u32], round: u32) -> usize
     ensures { result ≡ part_start vars degree messages.now round }
 {
@@ -37,7 +37,7 @@ pub fn round_part_start(vars: u32, degree: u32, messages: &[u32], round: u32) ->
     }
 }
 
-// How long it is, k+1; 0 where refused.
+// How long it is, k+1; 0 where refused, as `part_length` has it.
 pub fn round_part_length(vars: u32, degree: u32, messages: &[u32], round: u32) -> usize
     ensures { result ≡ part_length vars degree messages.now round }
 {

@@ -3,7 +3,7 @@ ghost use Rattle.std.specs.Prelude.{◌+◌, ◌≤◌};
 ghost use Rattle.refusals.specs.Limits.{max_degree};
 
 // `count` tables of `places` places each, one after the other. What a round still sees of a table is a lower half and an upper half right above it,
-// `half` places each.
+// `half` places each. How long a list must be for them is said where one is lent.
 #[derive(Clone, Copy)]
 pub(crate) struct Shape {
     pub count: usize,

@@ -51,7 +51,7 @@ fn product_at(tables: Tables, point: &[u32]) -> u32
     value
 }
 
-// The value of f at a point where vars, degree and the lengths are right; 0 where they are not.
+// The value of f at a point where vars, degree and the lengths are right; 0 where they are not, as `value_or_zero` has it.
 pub fn f_at(vars: u32, degree: u32, tables: &[u32], point: &[u32]) -> u32
     ensures { result ≡ value_or_zero p vars degree tables.now point.now }
 {

@@ -66,7 +66,7 @@ pub extern "C" fn sendurafi_close(state: State, value: u32) -> Answer
     s.close(value).outcome.into()
 }
 
-// The number of the round part's refusal; 0 if none.
+// The number of the round part's refusal; 0 if none, since C has no result.
 #[unsafe(no_mangle)]
 pub extern "C" fn sendurafi_round_part_refusal(
     vars: u32,
