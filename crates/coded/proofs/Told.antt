@@ -9,7 +9,8 @@ use Rattle.narrow_checker.specs.declared.failure.Failure.{Failure}
 use Rattle.narrow_checker.specs.declared.failure.Failure.TheVariants.{Rejected, Refused}
 use Rattle.narrow_steps.specs.Said.{said_opening, said_step, said_opened, said_stepped, state_of as checker_state}
 use Rattle.narrow_steps.specs.declared.state.Back.{Back}
-use Rattle.coded.specs.Coded.{with_value, turned_down, of_failure, of_number, of_done, of_verdict, of_rounds, of_opening, of_step, of_state, of_opened, of_stepped}
+use Rattle.coded.specs.Coded.{with_value, turned_down, of_failure, of_state}
+use Rattle.coded.specs.Coded.{of_number, of_done, of_verdict, of_rounds, of_opening, of_step, of_opened, of_stepped}
 use Rattle.coded.specs.declared.Answer.{Answer}
 use Rattle.coded.specs.declared.State.{State}
 use Rattle.coded.specs.declared.Stepped.{Stepped}
