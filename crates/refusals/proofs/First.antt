@@ -2,9 +2,8 @@
 use mathlib.Core.Path.{◌≡◌, refl, sym, ap, ◌∙◌}
 use mathlib.Core.Bool.{Bool, true, false, ◌||◌}
 use mathlib.Core.List.{List, [], ◌∷◌, ◌++◌}
-use Prim.Native.Nat.{ℕ, ◌≤◌, ◌<◌}
+use Prim.Native.Nat.{ℕ}
 use lib.Dec.{leb}
-use borrow.Author.Tests.{le-leb, lt-leb}
 use Rattle.refusals.specs.First.{Rule, ◌when◌, refused, choose, either, outside, first, decide}
 
 pub choose-true : {A : Type 0} {b : Bool} (x y : A) → b ≡ true → choose b x y ≡ x
@@ -20,14 +19,6 @@ turned number rules a e = sym (choose-true (refused number) (decide rules a) e)
 -- the first test fails
 pub passed : {A : Type 0} (number : ℕ) {test : Bool} (rules : List Rule) (a : A) → test ≡ false → decide rules a ≡ decide ((number when test) ∷ rules) a
 passed number rules a e = sym (choose-false (refused number) (decide rules a) e)
-
--- a number that is no element makes a list that is not of elements
-pub outside_here : (n : ℕ) {x : ℕ} (xs : List ℕ) → n ≤ x → true ≡ outside n (x ∷ xs)
-outside_here n {x} xs h = sym (choose-true true (outside n xs) (le-leb n x h))
-
--- an element is passed
-pub outside-next : (n : ℕ) {x : ℕ} (xs : List ℕ) → x < n → outside n xs ≡ outside n (x ∷ xs)
-outside-next n {x} xs h = sym (choose-false true (outside n xs) (lt-leb n x h))
 
 -- the same of the number alone
 pub numbered : (number : ℕ) {test : Bool} (rules : List Rule) → test ≡ true → number ≡ first ((number when test) ∷ rules)
@@ -73,11 +64,6 @@ pub first_rest : (rules more : List Rule) → Numbers rules → first rules ≡ 
 first_rest [] more n h = refl
 first_rest ((number when true) ∷ rules) more n h = absurd (n.0 h)
 first_rest ((number when false) ∷ rules) more n h = first_rest rules more n.1 h
-
-pub first_first : (rules more : List Rule) → (first rules ≡ 0 → ⊥) → first (rules ++ more) ≡ first rules
-first_first [] more h = absurd (h refl)
-first_first ((number when true) ∷ rules) more h = refl
-first_first ((number when false) ∷ rules) more h = first_first rules more h
 
 -- one refusal for either of two tests is that refusal for the one and then for the other
 pub decide-either : {A : Type 0} (number : ℕ) (a b : Bool) (rules : List Rule) (x : A)

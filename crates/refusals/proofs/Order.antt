@@ -8,7 +8,7 @@ use native.Mathlib.Omega.{arith}
 use lib.Dec.{eqb}
 use borrow.Author.Tests.{eq-eqb, ne_eqb, eqb-true, eqb-false}
 use Rattle.refusals.specs.First.{Rule, ◌when◌, Answer, refused, given, choose, either, outside, first, decide}
-use Rattle.refusals.proofs.First.{choose-true, choose-false, unnumbered, either_left, either-right, either-none, Numbers, first_rest, first_first}
+use Rattle.refusals.proofs.First.{choose-true, choose-false, unnumbered, either-none, Numbers, first_rest}
 use Rattle.refusals.proofs.First.{outside-append}
 
 -- no refusal has the number 0, by a test that computes
@@ -35,10 +35,7 @@ decide_number [] h a = refl
 decide_number {A} ((number when true) ∷ rules) h a = sym (choose-false (given a) (refused number) (ne_eqb number 0 h.0))
 decide_number ((number when false) ∷ rules) h a = decide_number rules h.1 a
 
--- one list of refusals after another: a number of the first list is given; where it gives none, the second decides
-pub first_turned : (xs ys : List Rule) {k : ℕ} → k ≡ first xs → (k ≡ 0 → ⊥) → k ≡ first (xs ++ ys)
-first_turned xs ys e z = e ∙ sym (first_first xs ys (λ (w : first xs ≡ 0). z (e ∙ w)))
-
+-- one list of refusals after another: where the first gives no number, the second decides
 pub first_passed : (xs ys : List Rule) → named xs ≡ true → {k : ℕ} → k ≡ first xs → k ≡ 0 → first ys ≡ first (xs ++ ys)
 first_passed xs ys h e z = sym (first_rest xs ys (named-numbers xs h) (sym e ∙ z))
 
@@ -87,13 +84,7 @@ pub neither_right : (a b : Bool) → either a b ≡ false → b ≡ false
 neither_right true b e = cc
 neither_right false b e = e
 
--- a search over one list after another, from what is known of each
-pub outside-left : (n : ℕ) (xs ys : List ℕ) → outside n xs ≡ true → outside n (xs ++ ys) ≡ true
-outside-left n xs ys e = outside-append n xs ys ∙ either_left (outside n ys) e
-
-pub outside-right : (n : ℕ) (xs ys : List ℕ) → outside n xs ≡ false → outside n ys ≡ true → outside n (xs ++ ys) ≡ true
-outside-right n xs ys e f = outside-append n xs ys ∙ either-right e f
-
+-- two lists one after the other hold no number that is no element where neither does
 pub outside-none : (n : ℕ) (xs ys : List ℕ) → outside n xs ≡ false → outside n ys ≡ false → outside n (xs ++ ys) ≡ false
 outside-none n xs ys e f = outside-append n xs ys ∙ either-none e f
 

@@ -18,9 +18,9 @@
 --   Walk          the rounds taken one by one from a lent message list
 --   Unrefused     what a call knows that was not refused
 --   Entries       what the checker knows of what was lent to it
---   Prover        the prover's refusals, one test at a time, and what it knows of what was lent to it
+--   Prover        the prover's refusals, one test at a time
 --   Part          where the round part lies, and that it is the message that is judged
---   Steps         the paths of opening, a step and closing
+--   Steps         the paths of a step
 --   Course        every sum agrees, or there is a first that fails
 --   Messages      a lent list as messages, and messages as a list
 --   Proving       what the prover leaves (specs/Proving)

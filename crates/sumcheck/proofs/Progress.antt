@@ -6,7 +6,7 @@ use Prim.Native.Nat.{ℕ, zero, suc, ◌+◌, ◌-◌, ◌*◌, ◌/◌, ◌^◌
 use native.Mathlib.Nat.{sub-zero, two-pow-succ, mul-le-mul_right, pow-le-pow_right, one-le-pow, sub-le}
 use native.Mathlib.Numerals.{add-one}
 use native.Mathlib.Omega.{arith}
-use lib.ListN.{length, take, drop, get_or, replicate, length-append, length-take, length-drop, drop_of_length-le}
+use lib.ListN.{length, take, drop, get_or, length-append, length-take, length-drop, drop_of_length-le}
 use lib.Seq.{take-suc, take_all, take-append-le, drop-append-le, drop_at}
 use Rattle.polynomial.specs.Elements.{Every}
 use Rattle.polynomial.proofs.Lists.{every_take}
@@ -206,21 +206,6 @@ module _ (n count places : ℕ) (tables challenges messages₀ scratch₀ : List
           long = ap length es ∙ (changed_length (folded_part n (get_or challenges j 0) (size / 2)) places keeps scratch count scratch_long ∙ w.long);
         }
 
-  -- a list that begins with the tables does so again
-  pub copied : (scratch : List ℕ) → scratch ≡ tables ++ drop (length tables) scratch₀ → scratch ≡ tables ++ drop (length tables) scratch
-  copied scratch e =
-      e ∙ ap (λ (r : List ℕ). tables ++ r) (sym (ap (drop (length tables)) e ∙ drop_at tables (drop (length tables) scratch₀) (length tables) refl))
-
-  pub copied_setting : (scratch : List ℕ) → scratch ≡ tables ++ drop (length tables) scratch₀ → Setting n count places tables challenges messages₀ scratch
-  copied_setting scratch e =
-      record {
-        modulus = s.modulus;
-        places_are = s.places_are;
-        tables_are = s.tables_are;
-        room = s.room;
-        scratch_room = omega (arith, ap length e, length-append tables (drop (length tables) scratch₀), s.tables_are);
-      }
-
   -- after the last round
   pub progress_end : (messages scratch : List ℕ) (size start j : ℕ)
       → Progress n count places tables challenges messages₀ scratch₀ messages scratch size start j → length challenges ≤ j
@@ -232,32 +217,3 @@ module _ (n count places : ℕ) (tables challenges messages₀ scratch₀ : List
       (omega (arith, polynomials_count n (parts count places tables) challenges [])))
       ∙ ap (λ (k : ℕ). join (true_polynomials n (parts count places tables) challenges) ++ drop (k * (count + 1)) messages₀)
       (polynomials_count n (parts count places tables) challenges []))
-
-  -- the message list is as long as it was
-  pub progress_long : (messages scratch : List ℕ) (size start j : ℕ)
-      → Progress n count places tables challenges messages₀ scratch₀ messages scratch size start j → length messages ≡ length messages₀
-  progress_long messages scratch size start j w =
-      ap length w.written
-      ∙ laid-length (count + 1) (take j (true_polynomials n (parts count places tables) challenges)) messages₀
-      (every_take (λ (q : List ℕ). length q ≡ count + 1) j (true_polynomials n (parts count places tables) challenges)
-      (polynomials_lengths n (count + 1) (parts count places tables) (ap suc (parts_count count places tables) ∙ sym (add-one count)) challenges []))
-      (omega (
-        arith,
-        mul-le-mul_right {m = length (take j (true_polynomials n (parts count places tables) challenges))} {n = length challenges} (count + 1)
-            (omega (
-              arith,
-              length-take j (true_polynomials n (parts count places tables) challenges),
-              polynomials_count n
-                  (parts count places tables) challenges [],
-            )),
-        s.room,
-      ))
-
-  -- scratch cleared
-  pub cleared : (scratch scratch' : List ℕ) → scratch ≡ tables ++ drop (length tables) scratch₀ → drop (count * places) scratch' ≡ drop (count * places) scratch
-      → replicate (length tables) 0 ++ drop (length tables) scratch' ≡ replicate (count * places) 0 ++ drop (count * places) scratch₀
-  cleared scratch scratch' e w =
-      ap (λ (k : ℕ). replicate k 0 ++ drop k scratch') s.tables_are
-      ∙ ap (λ (r : List ℕ). replicate (count * places) 0 ++ r)
-      (w ∙ (ap (drop (count * places)) e
-      ∙ (drop_at tables (drop (length tables) scratch₀) (count * places) s.tables_are ∙ ap (λ (i : ℕ). drop i scratch₀) s.tables_are)))

@@ -1,11 +1,11 @@
--- The paths of opening, a step and closing (specs/Steps): what each comes to, from the tests on the way. Assumes nothing.
+-- The paths of a step (specs/Steps): what each comes to, from the tests on the way. Assumes nothing.
 use mathlib.Core.Path.{◌≡◌, refl, sym, ap, ap₂, ◌∙◌}
 use mathlib.Core.Bool.{Bool, true, false, not}
-use mathlib.Core.List.{List, [], ◌∷◌, ◌++◌}
+use mathlib.Core.List.{List, [], ◌∷◌}
 use Prim.Native.Nat.{ℕ, suc, ◌+◌, ◌≤◌, ◌<◌}
 use native.Mathlib.Numerals.{add-one}
 use native.Mathlib.Omega.{arith}
-use lib.Dec.{eqb, ltb}
+use lib.Dec.{ltb}
 use lib.ListN.{length}
 use borrow.Author.Tests.{eqb-false, ltb-false}
 use Rattle.polynomial.specs.Elements.{Elements}
@@ -14,26 +14,17 @@ use Rattle.polynomial.specs.Array.{padded}
 use Rattle.refusals.specs.Limits.{max_vars, max_degree}
 use Rattle.refusals.specs.First.{Rule, ◌when◌, Answer, refused, given, first, choose, either, outside}
 use Rattle.refusals.proofs.First.{choose-true, choose-false}
-use Rattle.refusals.proofs.Order.{first_turned, first_passed, refused_by, given_by, kept_by, left_by, untested, neither_left, neither_right}
-use Rattle.sumcheck.specs.Protocol.{fits, Verdict, accepted, rejected, final, reached}
+use Rattle.refusals.proofs.Order.{refused_by, given_by, kept_by, left_by, untested, neither_left, neither_right}
+use Rattle.sumcheck.specs.Protocol.{fits}
 use Rattle.sumcheck.specs.Lent.{not_long}
-use Rattle.sumcheck.specs.Steps.{State, Back, complete, over, forged, opening_rules, opened, fresh, opening, fitted, rejects, step_rules, onward}
-use Rattle.sumcheck.specs.Steps.{marked, judged, moved, step, closing_rules, closed, closing}
+use Rattle.sumcheck.specs.Steps.{State, Back, complete, over, forged, fitted, rejects, step_rules, onward}
+use Rattle.sumcheck.specs.Steps.{marked, judged, moved, step}
 use Rattle.sumcheck.proofs.Walk.{array_fits, array_value}
 use Rattle.sumcheck.proofs.Unrefused.{vars-within, degree-within, is_long, is_inside}
 
 -- what a call hands back, part by part
 back : {A : Type 0} {s t : State} {a b : Answer A} → s ≡ t → a ≡ b → ◌≡◌ {A = Back A} (record { state = s; outcome = a }) (record { state = t; outcome = b })
 back {A} e f = ap₂ {B = Answer A} (λ (s : State) (a : Answer A). record { state = s; outcome = a }) e f
-
--- opening
-pub open_refused : (n vars degree claim : ℕ) {k : ℕ} → k ≡ first (opening_rules n vars degree claim) → (k ≡ 0 → ⊥)
-    → record { state = fresh vars degree claim; outcome = refused k } ≡ opening n vars degree claim
-open_refused n vars degree claim e z = back refl (refused_by (opening_rules n vars degree claim) refl opened e z)
-
-pub open_given : (n vars degree claim : ℕ) {k : ℕ} → k ≡ first (opening_rules n vars degree claim) → k ≡ 0
-    → record { state = fresh vars degree claim; outcome = given opened } ≡ opening n vars degree claim
-open_given n vars degree claim e z = back refl (given_by (opening_rules n vars degree claim) refl opened e z)
 
 -- what a step or closing refuses after it doubted the shape and the running claim: 7, and then what is given
 abbrev pub given_rules : ℕ → State → List ℕ → ℕ → List Rule
@@ -44,15 +35,6 @@ step_rest n s message challenge = 7 when either (forged s) (over s) ∷ given_ru
 
 abbrev pub closing_rest : ℕ → State → ℕ → List Rule
 closing_rest n s v = 7 when either (forged s) (not (over s)) ∷ 5 when outside n (v ∷ []) ∷ []
-
--- the shape and the running claim are doubted first
-pub doubted : (n : ℕ) (s : State) (rest : List Rule) {k : ℕ} → k ≡ first (opening_rules n s.vars s.degree s.claim) → (k ≡ 0 → ⊥)
-    → k ≡ first (opening_rules n s.vars s.degree s.claim ++ rest)
-doubted n s rest e z = first_turned (opening_rules n s.vars s.degree s.claim) rest e z
-
-pub undoubted : (n : ℕ) (s : State) (rest : List Rule) {k : ℕ} → k ≡ first (opening_rules n s.vars s.degree s.claim) → k ≡ 0
-    → first rest ≡ first (opening_rules n s.vars s.degree s.claim ++ rest)
-undoubted n s rest e z = first_passed (opening_rules n s.vars s.degree s.claim) rest refl e z
 
 -- what a step knows that was not refused
 pub record Unrefused (n : ℕ) (s : State) (message : List ℕ) (challenge : ℕ) : Type 0 where
@@ -127,33 +109,3 @@ module _ (n : ℕ) (s : State) (message : List ℕ) (challenge : ℕ) {k : ℕ} 
       back (sym (choose-false (onward n s message challenge) (marked s) false-fit))
       (ap given (ap rejects (add-one s.taken) ∙ sym (choose-false fitted (rejects (suc s.taken)) false-fit)))
       ∙ step_given z
-
-module _ (n : ℕ) (s : State) (v : ℕ) {k : ℕ} (e : k ≡ first (closing_rules n s v)) where
-  pub close_refused : (k ≡ 0 → ⊥) → record { state = s; outcome = refused k } ≡ closing n s v
-  close_refused z = back refl (refused_by (closing_rules n s v) refl (closed s v) e z)
-
-  close_given : k ≡ 0 → {a : Verdict} → a ≡ closed s v → record { state = s; outcome = given a } ≡ closing n s v
-  close_given z w = back refl (ap given w ∙ given_by (closing_rules n s v) refl (closed s v) e z)
-
-  -- a rejected state gives its round
-  pub close_marked : k ≡ 0 → s.mark ≡ true → record { state = s; outcome = given (rejected (s.taken + 1)) } ≡ closing n s v
-  close_marked z m = close_given z (ap rejected (add-one s.taken) ∙ sym (choose-true (rejected (suc s.taken)) (final s.vars v (reached s.claim)) m))
-
-  -- the final check
-  pub close_accepted : k ≡ 0 → s.mark ≡ false → eqb s.claim v ≡ true → record { state = s; outcome = given accepted } ≡ closing n s v
-  close_accepted z m f =
-      close_given z
-      (sym (choose-false (rejected (suc s.taken)) (final s.vars v (reached s.claim)) m ∙ choose-true accepted (rejected s.vars) f))
-
-  pub close_differs : k ≡ 0 → s.mark ≡ false → eqb s.claim v ≡ false → record { state = s; outcome = given (rejected s.vars) } ≡ closing n s v
-  close_differs z m f =
-      close_given z
-      (sym (choose-false (rejected (suc s.taken)) (final s.vars v (reached s.claim)) m ∙ choose-false accepted (rejected s.vars) f))
-
-  -- rounds taken fit: a state that is not refused has no more of them than vars
-  pub close_taken : k ≡ 0 → s.taken ≤ max_vars
-  close_taken z =
-      let u = untested (closing_rules n s v) refl e z in
-      let kind : forged s ≡ false = neither_left (forged s) (not (over s)) u.1.1.1.0 in
-      let most : s.taken ≤ s.vars = ltb-false s.vars s.taken (neither_left (ltb s.vars s.taken) (choose s.mark (complete s) false) kind) in
-      omega (arith, vars-within s.vars u.0)

@@ -3,7 +3,7 @@
 use mathlib.Core.Path.{◌≡◌, refl, sym, ap, ap₂, ◌∙◌}
 use mathlib.Core.List.{List, [], ◌∷◌, ◌++◌, map}
 use Prim.Native.Nat.{ℕ, suc, ◌+◌, ◌-◌, ◌*◌, ◌%◌, ◌≤◌, ◌<◌}
-use native.Mathlib.Nat.{sub_self, sub-zero, zero-mul}
+use native.Mathlib.Nat.{sub_self, sub-zero}
 use native.Mathlib.Numerals.{add-one}
 use native.Mathlib.Omega.{arith}
 use lib.ListN.{length, take, drop, get_or, replicate, length-map, replicate-append-replicate}
@@ -139,12 +139,6 @@ term_turn n half i places count top left xs product ne h t k e =
   where
     one_less : (m : ℕ) → (m ≡ 0 → ⊥) → m ≡ suc (m - 1)
     one_less m h = omega arith
-
-pub term_last : (n half i places count top left : ℕ) (xs : List ℕ) → left ≡ 0
-    → term_left n half i places count left xs ++ replicate (top - (count - left)) 0 ≡ term_at n half (parts count places xs) i ++ replicate (top - count) 0
-term_last n half i places count top left xs e =
-    ap (λ (m : ℕ). term_left n half i places count m xs ++ replicate (top - (count - m)) 0) e
-    ∙ ap₂ (λ (m j : ℕ). term_at n half (parts m places (drop j xs)) i ++ replicate (top - m) 0) (sub-zero count) (zero-mul places)
 
 -- the first count + 1 places of the array are the round's polynomial
 pub sum_taken : (n half count z : ℕ) → 0 < n → 0 < half → (us : List (List ℕ)) → length us ≡ count

@@ -1,28 +1,18 @@
 -- What a call knows that was not refused: each test of specs/Lent that fails, as a fact; and the other way round. Assumes nothing.
 use mathlib.Core.Path.{◌≡◌, refl, ap}
-use mathlib.Core.Bool.{true, false, not}
-use mathlib.Core.List.{List, [], ◌∷◌, ◌++◌}
+use mathlib.Core.Bool.{false, not}
+use mathlib.Core.List.{List, [], ◌∷◌}
 use Prim.Native.Nat.{ℕ, ◌≤◌, ◌<◌}
 use native.Mathlib.Omega.{arith}
 use lib.Dec.{eqb, ltb, leb}
 use lib.ListN.{length}
-use borrow.Author.Tests.{ltb-false, leb-false, eqb-true, eqb-false, not-false, eq-eqb, ne_eqb, lt-leb}
+use borrow.Author.Tests.{ltb-false, leb-false, eqb-true, eqb-false, not-false, eq-eqb, lt-leb}
 use Rattle.refusals.specs.Limits.{max_vars, max_degree}
-use Rattle.refusals.specs.First.{Rule, first, outside}
+use Rattle.refusals.specs.First.{outside}
 use Rattle.refusals.proofs.First.{either-none}
-use Rattle.refusals.proofs.Order.{first_turned, first_passed, neither_left, neither_right}
+use Rattle.refusals.proofs.Order.{neither_left, neither_right}
 use Rattle.polynomial.specs.Elements.{Elements}
 use Rattle.sumcheck.specs.Lent.{bad_vars, bad_degree, not_long}
-use Rattle.sumcheck.proofs.Answers.{shape_rules}
-
--- the shape is judged first
-pub shape-turned : (vars degree : ℕ) (rest : List Rule) {k : ℕ} → k ≡ first (shape_rules vars degree) → (k ≡ 0 → ⊥)
-    → k ≡ first (shape_rules vars degree ++ rest)
-shape-turned vars degree rest e z = first_turned (shape_rules vars degree) rest e z
-
-pub shape-passed : (vars degree : ℕ) (rest : List Rule) {k : ℕ} → k ≡ first (shape_rules vars degree) → k ≡ 0
-    → first rest ≡ first (shape_rules vars degree ++ rest)
-shape-passed vars degree rest e z = first_passed (shape_rules vars degree) rest refl e z
 
 pub vars-within : (vars : ℕ) → bad_vars vars ≡ false → vars ≤ max_vars
 vars-within vars e = ltb-false max_vars vars e
@@ -41,9 +31,6 @@ is_long k xs e = eqb-true (length xs) k (not-false (eqb (length xs) k) e)
 
 pub long_is : (k : ℕ) (xs : List ℕ) → length xs ≡ k → not_long k xs ≡ false
 long_is k xs e = ap not (eq-eqb (length xs) k e)
-
-pub not_long_lem : (k : ℕ) (xs : List ℕ) → (length xs ≡ k → ⊥) → not_long k xs ≡ true
-not_long_lem k xs e = ap not (ne_eqb (length xs) k e)
 
 -- a list of elements
 pub is_inside : (n : ℕ) (xs : List ℕ) → outside n xs ≡ false → Elements n xs

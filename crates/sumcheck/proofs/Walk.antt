@@ -3,12 +3,11 @@ use mathlib.Core.Path.{◌≡◌, sym, ap, ap₂, ◌∙◌}
 use mathlib.Core.Bool.{true, false}
 use mathlib.Core.List.{List}
 use Prim.Native.Nat.{ℕ, suc, ◌+◌, ◌-◌, ◌*◌, ◌≤◌, ◌<◌}
-use native.Mathlib.Nat.{zero-mul, sub-zero}
 use native.Mathlib.Numerals.{add-one}
 use native.Mathlib.Omega.{arith}
 use lib.Dec.{eqb}
 use lib.ListN.{length, get_or, take, drop, length-take}
-use lib.Seq.{drop-cons, drop-length, drop-drop}
+use lib.Seq.{drop-cons, drop-drop}
 use Rattle.arithmetic.specs.Modulo.{add}
 use Rattle.polynomial.specs.Polynomial.{value}
 use Rattle.polynomial.specs.Array.{padded}
@@ -16,7 +15,7 @@ use Rattle.polynomial.proofs.Array.{padded-value}
 use Rattle.refusals.specs.Limits.{max_degree}
 use Rattle.refusals.specs.First.{choose}
 use Rattle.refusals.proofs.First.{choose-true, choose-false}
-use Rattle.sumcheck.specs.Protocol.{fits, Rounds, reached, failed, rounds_from, rounds}
+use Rattle.sumcheck.specs.Protocol.{fits, Rounds, failed, rounds_from, rounds}
 use Rattle.sumcheck.specs.Lent.{parts}
 use Rattle.sumcheck.proofs.Parts.{part_of}
 
@@ -32,10 +31,6 @@ array_fits n message cs c e h = ap₂ (λ (a b : ℕ). eqb (add n a b) c) (array
 abbrev pub Walked : ℕ → ℕ → List ℕ → ℕ → List ℕ → ℕ → ℕ → Type 0
 Walked n claim rs width xs j c =
     rounds n claim rs (parts (length rs) width xs) ≡ rounds_from n (suc j) c (drop j rs) (parts (length rs - j) width (drop (j * width) xs))
-
-pub walked_none : (n claim : ℕ) (rs : List ℕ) (width : ℕ) (xs : List ℕ) → Walked n claim rs width xs 0 claim
-walked_none n claim rs width xs =
-    ap₂ (λ (m : ℕ) (ys : List ℕ). rounds_from n 1 claim rs (parts m width ys)) (sym (sub-zero (length rs))) (ap (λ (i : ℕ). drop i xs) (sym (zero-mul width)))
 
 -- the message of round j, from 0
 abbrev pub message_at : ℕ → List ℕ → ℕ → List ℕ
@@ -90,11 +85,3 @@ walked_failed n claim rs width xs j c h w e =
     (parts (length rs - suc j) width (drop (suc j * width) xs)))
     (failed (suc j))
     e)
-
--- all rounds are taken
-pub walked_all : (n claim : ℕ) (rs : List ℕ) (width : ℕ) (xs : List ℕ) (j c : ℕ) → j ≡ length rs → Walked n claim rs width xs j c
-    → reached c ≡ rounds n claim rs (parts (length rs) width xs)
-walked_all n claim rs width xs j c e w =
-    sym
-    (w
-    ∙ ap (λ (l : List ℕ). rounds_from n (suc j) c l (parts (length rs - j) width (drop (j * width) xs))) (ap (λ (i : ℕ). drop i rs) e ∙ drop-length rs))

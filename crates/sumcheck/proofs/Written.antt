@@ -1,12 +1,12 @@
 -- A list whose first places have been written one after the other: what a loop that fills the front of a lent list knows. Assumes nothing.
 use mathlib.Core.Path.{◌≡◌, refl, sym, ap, ap₂, ◌∙◌}
 use mathlib.Core.List.{List, [], ◌∷◌, ◌++◌, map, append_assoc}
-use Prim.Native.Nat.{ℕ, zero, suc, ◌+◌, ◌-◌, ◌≤◌, ◌<◌}
+use Prim.Native.Nat.{ℕ, suc, ◌+◌, ◌-◌, ◌≤◌, ◌<◌}
 use native.Mathlib.Nat.{zero-add}
 use native.Mathlib.Numerals.{add-one}
 use native.Mathlib.Omega.{arith}
-use lib.ListN.{length, take, drop, get_or, set, replicate, length-append, length-drop, length-map}
-use lib.Seq.{drop-cons, set_at, take-suc, get_or-append-add, get_or-drop}
+use lib.ListN.{length, drop, get_or, set, length-map}
+use lib.Seq.{drop-cons, set_at, get_or-append-add, get_or-drop}
 use Rattle.polynomial.proofs.Lists.{map-append}
 use Rattle.polynomial.specs.Elements.{count_from}
 use Rattle.sumcheck.proofs.Corners.{count_append, count_length}
@@ -35,9 +35,6 @@ written_more g i xs h =
     ∙ (sym (append_assoc (map g (count_from 0 i)) (g i ∷ []) (drop (suc i) xs))
     ∙ ap₂ (λ (a : List ℕ) (j : ℕ). a ++ drop j xs) (sym (front_more g i)) (sym (add-one i))))
 
-pub written-length : (g : ℕ → ℕ) (i : ℕ) (xs : List ℕ) → i ≤ length xs → length (written g i xs) ≡ length xs
-written-length g i xs h = omega (arith, length-append (map g (count_from 0 i)) (drop i xs), front_length g i, length-drop i xs)
-
 -- a place that is not yet written is as it was
 pub written_at : (g : ℕ → ℕ) (i : ℕ) (xs : List ℕ) (j : ℕ) → i ≤ j → get_or (written g i xs) j 0 ≡ get_or xs j 0
 written_at g i xs j h =
@@ -47,23 +44,6 @@ written_at g i xs j h =
     place : (l : ℕ) → l ≡ i → j ≡ l + (j - i)
     place l e = omega arith
 
--- a list, place by place
-pub count_take : (xs : List ℕ) (i : ℕ) → i ≤ length xs → map (λ (j : ℕ). get_or xs j 0) (count_from 0 i) ≡ take i xs
-unfolding count_from
-count_take xs zero h = refl
-count_take xs (suc i) h =
-    ap (λ (k : ℕ). map (λ (j : ℕ). get_or xs j 0) (count_from 0 k)) (sym (add-one i))
-    ∙ (front_more (λ (j : ℕ). get_or xs j 0) i ∙ (ap (λ (r : List ℕ). r ++ get_or xs i 0 ∷ []) (count_take xs i (omega arith)) ∙ sym (take-suc xs i 0 h)))
-
--- one number in every place
-pub count_replicate : (a i c : ℕ) → map (λ (j : ℕ). a) (count_from i c) ≡ replicate c a
-unfolding count_from
-count_replicate a i zero = refl
-count_replicate a i (suc c) = ap (λ (r : List ℕ). a ∷ r) (count_replicate a (suc i) c)
-
 -- the same of a list that a loop holds
 pub written_next : (g : ℕ → ℕ) (i : ℕ) (xs ys : List ℕ) (v : ℕ) → ys ≡ written g i xs → i < length xs → v ≡ g i → set ys i v ≡ written g (i + 1) xs
 written_next g i xs ys v e h w = ap₂ (λ (zs : List ℕ) (x : ℕ). set zs i x) e w ∙ written_more g i xs h
-
-pub written_long : (g : ℕ → ℕ) (i : ℕ) (xs ys : List ℕ) → ys ≡ written g i xs → i ≤ length xs → length ys ≡ length xs
-written_long g i xs ys e h = ap length e ∙ written-length g i xs h
