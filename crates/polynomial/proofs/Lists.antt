@@ -49,10 +49,6 @@ pub map_twice : {A B C : Type 0} (g : B → C) (h : A → B) (xs : List A) → m
 map_twice g h [] = refl
 map_twice {C = C} g h (x ∷ xs) = ap (λ (ys : List C). g (h x) ∷ ys) (map_twice g h xs)
 
-pub map-append : {A B : Type 0} (g : A → B) (xs ys : List A) → map g (xs ++ ys) ≡ map g xs ++ map g ys
-map-append g [] ys = refl
-map-append {B = B} g (x ∷ xs) ys = ap (λ (zs : List B). g x ∷ zs) (map-append g xs ys)
-
 -- a sum is its own remainder
 pub sum_reduced : (n : ℕ) (xs : List ℕ) → sum n xs % n ≡ sum n xs
 sum_reduced n [] = zero-mod n

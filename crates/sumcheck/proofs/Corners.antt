@@ -1,12 +1,12 @@
 -- The corners of m variables: m members each, all 0 or 1, and their indices are 0, 1, .., 2^m - 1 in order. Assumes nothing.
 use mathlib.Core.Path.{◌≡◌, refl, sym, ap, ap₂, ◌∙◌}
-use mathlib.Core.List.{List, [], ◌∷◌, ◌++◌, map}
+use mathlib.Core.List.{List, [], ◌∷◌, ◌++◌, map, map-append}
 use Prim.Native.Nat.{ℕ, zero, suc, ◌+◌, ◌-◌, ◌*◌, ◌^◌, ◌≤◌, ◌<◌}
 use native.Mathlib.Omega.{arith}
 use native.Mathlib.Nat.{add-zero, zero-add, add-suc, suc-add, sub_self, two-pow-succ}
 use lib.ListN.{length, length-append, length-map}
 use Rattle.polynomial.specs.Elements.{Every, Distinct, count_from}
-use Rattle.polynomial.proofs.Lists.{every_map, every_of_map, every_append, map_same, map_twice, map-append}
+use Rattle.polynomial.proofs.Lists.{every_map, every_of_map, every_append, map_same, map_twice}
 use Rattle.sumcheck.specs.Corners.{corners, index}
 
 -- a list of m members, each 0 or 1

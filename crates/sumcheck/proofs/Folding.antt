@@ -2,7 +2,7 @@
 -- value. The corners whose first bit is 0 meet the lower half of the table with weight 1 - r, those whose first bit is 1 the upper half with
 -- weight r, and the two add up to the point between. Assumes nothing.
 use mathlib.Core.Path.{◌≡◌, sym, ap, ap₂, ◌∙◌}
-use mathlib.Core.List.{List, [], ◌∷◌, map}
+use mathlib.Core.List.{List, [], ◌∷◌, map, map-append}
 use Prim.Native.Nat.{ℕ, zero, suc, ◌+◌, ◌*◌, ◌^◌, ◌%◌, ◌<◌}
 use native.Mathlib.Nat.{mod-mod, add-zero, zero-add, add-suc, suc-add}
 use native.Mathlib.Omega.{arith}
@@ -11,7 +11,7 @@ use Rattle.arithmetic.specs.Modulo.{add, mul, sub}
 use Rattle.arithmetic.proofs.Ring.{at, ◌⊕◌, ◌⊗◌, ⊖◌, same}
 use Rattle.arithmetic.proofs.Modulo.{add-zero-mod}
 use Rattle.polynomial.specs.Elements.{Every, sum, count_from}
-use Rattle.polynomial.proofs.Lists.{every_map, map_same, map_twice, map-append, sum-append, sum-add}
+use Rattle.polynomial.proofs.Lists.{every_map, map_same, map_twice, sum-append, sum-add}
 use Rattle.sumcheck.specs.Corners.{corners, index}
 use Rattle.sumcheck.specs.Extension.{factor, weight, extension}
 use Rattle.sumcheck.specs.Folding.{between, fold}

@@ -1,6 +1,6 @@
 -- Pieces of one length laid over the front of a list, one after the other: how a loop writes a lent list part by part. Assumes nothing.
 use mathlib.Core.Path.{◌≡◌, refl, sym, ap, ap₂, ◌∙◌}
-use mathlib.Core.List.{List, [], ◌∷◌, ◌++◌, map, append_assoc, append-nil}
+use mathlib.Core.List.{List, [], ◌∷◌, ◌++◌, map, append_assoc, append-nil, map-append}
 use Prim.Native.Nat.{ℕ, zero, suc, ◌+◌, ◌-◌, ◌*◌, ◌≤◌}
 use native.Mathlib.Nat.{zero-mul, add-sub_cancel_left}
 use native.Mathlib.Numerals.{add-one}
@@ -8,7 +8,7 @@ use native.Mathlib.Omega.{arith}
 use lib.ListN.{length, take, drop, length-append, length-take, length-drop, length-map}
 use lib.Seq.{take_at, drop_at, drop-drop}
 use Rattle.polynomial.specs.Elements.{Every}
-use Rattle.polynomial.proofs.Lists.{map-append, every_map, every_of_map}
+use Rattle.polynomial.proofs.Lists.{every_map, every_of_map}
 use Rattle.sumcheck.specs.Lent.{parts, join}
 
 pub length-join : (l : ℕ) (ps : List (List ℕ)) → Every (λ (p : List ℕ). length p ≡ l) ps → length (join ps) ≡ length ps * l

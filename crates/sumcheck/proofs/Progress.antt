@@ -1,7 +1,7 @@
 -- The prover's progress, a round at a time: after j rounds the message list holds the first j true polynomials, and the fronts of scratch's parts are
 -- the tables folded by the first j challenges. Assumes nothing.
 use mathlib.Core.Path.{◌≡◌, refl, sym, ap, ap₂, ◌∙◌}
-use mathlib.Core.List.{List, [], ◌∷◌, ◌++◌, map, append-nil}
+use mathlib.Core.List.{List, [], ◌∷◌, ◌++◌, map, append-nil, map-id}
 use Prim.Native.Nat.{ℕ, zero, suc, ◌+◌, ◌-◌, ◌*◌, ◌/◌, ◌^◌, ◌≤◌, ◌<◌}
 use native.Mathlib.Nat.{sub-zero, two-pow-succ, mul-le-mul_right, pow-le-pow_right, one-le-pow, sub-le}
 use native.Mathlib.Numerals.{add-one}
@@ -52,10 +52,6 @@ fronts-whole l [] h = refl
 fronts-whole l (u ∷ us) h =
     ap₂ {B = List (List ℕ)} (λ (a : List ℕ) (b : List (List ℕ)). a ∷ b) (take_all l u (omega (arith, h.0))) (fronts-whole l us h.1)
 
-same_map : (us : List (List ℕ)) → us ≡ map (λ (t : List ℕ). t) us
-same_map [] = refl
-same_map (u ∷ us) = ap (λ (r : List (List ℕ)). u ∷ r) (same_map us)
-
 module _ (n count places : ℕ) (tables challenges messages₀ scratch₀ : List ℕ) (s : Setting n count places tables challenges messages₀ scratch₀) where
   -- before the first round
   pub progress_start : (scratch : List ℕ) → scratch ≡ tables ++ drop (length tables) scratch₀
@@ -70,7 +66,7 @@ module _ (n count places : ℕ) (tables challenges messages₀ scratch₀ : List
             ap (λ (xs : List ℕ). fronts places (parts count places xs)) e
             ∙ (ap (fronts places) (parts-front count places tables (drop (length tables) scratch₀) (omega (arith, s.tables_are)))
             ∙ (fronts-whole places (parts count places tables) (parts_lengths count places tables (omega (arith, s.tables_are)))
-            ∙ same_map (parts count places tables)));
+            ∙ sym (map-id (parts count places tables))));
         behind =
             ap (drop (count * places)) e
             ∙ (drop_at tables (drop (length tables) scratch₀) (count * places) s.tables_are ∙ ap (λ (i : ℕ). drop i scratch₀) s.tables_are);

@@ -2,7 +2,7 @@
 -- k + 1 elements, and with n prime and above k no other such list has those values; its values at 0 and 1 add up to the round's true claim.
 -- Assumes nothing.
 use mathlib.Core.Path.{◌≡◌, refl, sym, ap, ap₂, ◌∙◌}
-use mathlib.Core.List.{List, [], ◌∷◌, ◌++◌, map, append_assoc}
+use mathlib.Core.List.{List, [], ◌∷◌, ◌++◌, map, append_assoc, map-append}
 use Prim.Native.Nat.{ℕ, suc, ◌+◌, ◌≤◌, ◌<◌}
 use native.Mathlib.Omega.{arith}
 use lib.ListN.{length, length-map}
@@ -10,7 +10,7 @@ use Rattle.arithmetic.specs.Modulo.{add}
 use Rattle.arithmetic.specs.Prime.{Prime}
 use Rattle.polynomial.specs.Elements.{Elements, sum, product, count_from}
 use Rattle.polynomial.specs.Polynomial.{value, times_all}
-use Rattle.polynomial.proofs.Lists.{every, every_of_map, map_same, map_twice, map-append, sum-append}
+use Rattle.polynomial.proofs.Lists.{every, every_of_map, map_same, map_twice, sum-append}
 use Rattle.polynomial.proofs.Value.{value-plus_all, value-times_all}
 use Rattle.polynomial.proofs.Shape.{length-times_all, length-plus_all, elements-times_all, elements-plus_all}
 use Rattle.polynomial.proofs.Roots.{agree_equal}

@@ -1,13 +1,12 @@
 -- A list whose first places have been written one after the other: what a loop that fills the front of a lent list knows. Assumes nothing.
 use mathlib.Core.Path.{◌≡◌, refl, sym, ap, ap₂, ◌∙◌}
-use mathlib.Core.List.{List, [], ◌∷◌, ◌++◌, map, append_assoc}
+use mathlib.Core.List.{List, [], ◌∷◌, ◌++◌, map, append_assoc, map-append}
 use Prim.Native.Nat.{ℕ, suc, ◌+◌, ◌-◌, ◌≤◌, ◌<◌}
 use native.Mathlib.Nat.{zero-add}
 use native.Mathlib.Numerals.{add-one}
 use native.Mathlib.Omega.{arith}
 use lib.ListN.{length, drop, get_or, set, length-map}
 use lib.Seq.{drop-cons, set_at, get_or-append-add, get_or-drop}
-use Rattle.polynomial.proofs.Lists.{map-append}
 use Rattle.polynomial.specs.Elements.{count_from}
 use Rattle.sumcheck.proofs.Corners.{count_append, count_length}
 
