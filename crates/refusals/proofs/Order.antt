@@ -88,10 +88,6 @@ neither_right false b e = e
 pub outside-none : (n : ℕ) (xs ys : List ℕ) → outside n xs ≡ false → outside n ys ≡ false → outside n (xs ++ ys) ≡ false
 outside-none n xs ys e f = outside-append n xs ys ∙ either-none e f
 
--- a refusal is no answer
-pub refused-given : {A : Type 0} (number : ℕ) (a : A) → refused number ≡ given a → ⊥
-refused-given number a e = let z : ◌≡◌ {A = ℕ} 0 1 = cc in omega arith
-
 -- what an answer says: a value was not refused, and a refusal is the first whose test holds
 pub decided_given : {A : Type 0} (rules : List Rule) → named rules ≡ true → (a x : A) → decide rules a ≡ given x → (first rules ≡ 0) × (a ≡ x)
 decided_given {A} rules h a x e = go (eqb (first rules) 0) refl (sym (decide_number rules (named-numbers rules h) a) ∙ e)
@@ -100,7 +96,7 @@ decided_given {A} rules h a x e = go (eqb (first rules) 0) refl (sym (decide_num
     go true t f =
         let same : ◌≡◌ {A = Answer A} (given a) (given x) = sym (choose-true (given a) (refused (first rules)) t) ∙ f in
         (eqb-true (first rules) 0 t, cc)
-    go false t f = absurd (refused-given (first rules) x (sym (choose-false (given a) (refused (first rules)) t) ∙ f))
+    go false t f = let no : ◌≡◌ {A = Answer A} (refused (first rules)) (given x) = sym (choose-false (given a) (refused (first rules)) t) ∙ f in cc
 
 pub decided_refused : {A : Type 0} (rules : List Rule) → named rules ≡ true → (a : A) (number : ℕ) → decide rules a ≡ refused number
     → (first rules ≡ number) × (number ≡ 0 → ⊥)
@@ -108,7 +104,7 @@ decided_refused {A} rules h a number e = go (eqb (first rules) 0) refl (sym (dec
   where
     go : (b : Bool) → eqb (first rules) 0 ≡ b → choose (eqb (first rules) 0) (given a) (refused (first rules)) ≡ refused number
         → (first rules ≡ number) × (number ≡ 0 → ⊥)
-    go true t f = absurd (refused-given number a (sym (sym (choose-true (given a) (refused (first rules)) t) ∙ f)))
+    go true t f = let no : ◌≡◌ {A = Answer A} (given a) (refused number) = sym (choose-true (given a) (refused (first rules)) t) ∙ f in cc
     go false t f =
         let same : ◌≡◌ {A = Answer A} (refused (first rules)) (refused number) = sym (choose-false (given a) (refused (first rules)) t) ∙ f in
         let alike : first rules ≡ number = cc in

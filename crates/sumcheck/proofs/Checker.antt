@@ -45,11 +45,9 @@ module _ (n v c : ℕ) (rs : List ℕ) (ms : List (List ℕ)) (m : ℕ) (e : len
       go : Course n c rs ms → (b : Bool) → eqb (claim_after n c rs ms m) v ≡ b → SumsAgree n c rs ms m × (claim_after n c rs ms m ≡ v)
       go (fair u) true t = (subst (SumsAgree n c rs ms) e u, eqb-true (claim_after n c rs ms m) v t)
       go (fair u) false t =
-          let z : rejected m ≡ accepted = sym (fair-final (subst (SumsAgree n c rs ms) e u) ∙ choose-false accepted (rejected m) t) ∙ h in
-          absurd (let y : ◌≡◌ {A = ℕ} 0 1 = cc in omega arith)
+          let z : rejected m ≡ accepted = sym (fair-final (subst (SumsAgree n c rs ms) e u) ∙ choose-false accepted (rejected m) t) ∙ h in cc
       go (foul j l u w) b t =
-          let z : rejected (suc j) ≡ accepted = sym (foul-final j (omega arith) u w) ∙ h in
-          absurd (let y : ◌≡◌ {A = ℕ} 0 1 = cc in omega arith)
+          let z : rejected (suc j) ≡ accepted = sym (foul-final j (omega arith) u w) ∙ h in cc
 
   accepted_by : SumsAgree n c rs ms m → claim_after n c rs ms m ≡ v → final m v (rounds n c rs ms) ≡ accepted
   accepted_by u w = fair-final u ∙ choose-true accepted (rejected m) (eq-eqb (claim_after n c rs ms m) v w)
@@ -63,8 +61,7 @@ module _ (n v c : ℕ) (rs : List ℕ) (ms : List (List ℕ)) (m : ℕ) (e : len
     where
       go : Course n c rs ms → (b : Bool) → eqb (claim_after n c rs ms m) v ≡ b → Fails n m v c rs ms round
       go (fair u) true t =
-          let z : accepted ≡ rejected round = sym (fair-final (subst (SumsAgree n c rs ms) e u) ∙ choose-true accepted (rejected m) t) ∙ h in
-          absurd (let y : ◌≡◌ {A = ℕ} 0 1 = cc in omega arith)
+          let z : accepted ≡ rejected round = sym (fair-final (subst (SumsAgree n c rs ms) e u) ∙ choose-true accepted (rejected m) t) ∙ h in cc
       go (fair u) false t =
           let z : rejected m ≡ rejected round = sym (fair-final (subst (SumsAgree n c rs ms) e u) ∙ choose-false accepted (rejected m) t) ∙ h in
           let y : m ≡ round = cc in

@@ -23,8 +23,7 @@ use Rattle.sumcheck.proofs.Followed.{follow, answers, state_at, Ended, through, 
 -- a rejected state is refused by every step
 marked_refused : (n : ℕ) (s : State) → s.mark ≡ true → (message : List ℕ) (challenge : ℕ) → first (step_rules n s message challenge) ≡ 0 → ⊥
 marked_refused n s h message challenge z =
-    let w : true ≡ false = sym h ∙ (unrefused n s message challenge refl z).going in
-    let y : ◌≡◌ {A = ℕ} 0 1 = cc in omega arith
+    let w : true ≡ false = sym h ∙ (unrefused n s message challenge refl z).going in cc
 
 -- so it stays, and no input is kept
 pub record Stays (n : ℕ) (s : State) (inputs : List Input) : Type 0 where

@@ -42,7 +42,7 @@ fits-reached false x j v e = cc
 
 -- a failed sum does not reach a last value
 stuck : (j v : ℕ) → failed j ≡ reached v → ⊥
-stuck j v e = let z : ◌≡◌ {A = ℕ} 0 1 = cc in omega arith
+stuck j v e = cc
 
 -- one round more in front
 later : (n x : ℕ) (rs : List ℕ) (s g : List ℕ) (ms gs : List (List ℕ)) → (i : ℕ) × Met n rs ms gs i → (i : ℕ) × Met n (x ∷ rs) (s ∷ ms) (g ∷ gs) i
