@@ -28,10 +28,9 @@ pub record Setting (n count places : ℕ) (tables challenges messages scratch : 
   pub scratch_room : count * places ≤ length scratch
 
 -- the progress after j rounds
-pub record Progress (n count places : ℕ) (tables challenges messages₀ scratch₀ messages scratch : List ℕ) (size start j : ℕ) : Type 0 where
+pub record Progress (n count places : ℕ) (tables challenges messages₀ scratch₀ messages scratch : List ℕ) (size j : ℕ) : Type 0 where
   pub turns : j ≤ length challenges
   pub size_is : size ≡ 2 ^ (length challenges - j)
-  pub start_is : start ≡ j * (count + 1)
   pub written : messages ≡ laid (count + 1) (take j (true_polynomials n (parts count places tables) challenges)) messages₀
   pub folded_so : fronts size (parts count places scratch) ≡ map (λ (t : List ℕ). folded n t (take j challenges) (length challenges - j))
       (parts count places tables)
@@ -52,15 +51,14 @@ fronts-whole l [] h = refl
 fronts-whole l (u ∷ us) h =
     ap₂ {B = List (List ℕ)} (λ (a : List ℕ) (b : List (List ℕ)). a ∷ b) (take_all l u (omega (arith, h.0))) (fronts-whole l us h.1)
 
-module _ (n count places : ℕ) (tables challenges messages₀ scratch₀ : List ℕ) (s : Setting n count places tables challenges messages₀ scratch₀) where
+module _ {n count places : ℕ} {tables challenges messages₀ scratch₀ : List ℕ} (s : Setting n count places tables challenges messages₀ scratch₀) where
   -- before the first round
-  pub progress_start : (scratch : List ℕ) → scratch ≡ tables ++ drop (length tables) scratch₀
-      → Progress n count places tables challenges messages₀ scratch₀ messages₀ scratch places 0 0
-  progress_start scratch e =
+  pub progress_start : {scratch : List ℕ} → scratch ≡ tables ++ drop (length tables) scratch₀
+      → Progress n count places tables challenges messages₀ scratch₀ messages₀ scratch places 0
+  progress_start e =
       record {
         turns = omega arith;
         size_is = s.places_are ∙ ap (λ (l : ℕ). 2 ^ l) (sym (sub-zero (length challenges)));
-        start_is = omega arith;
         written = sym (laid_none (count + 1) messages₀);
         folded_so =
             ap (λ (xs : List ℕ). fronts places (parts count places xs)) e
@@ -81,8 +79,12 @@ module _ (n count places : ℕ) (tables challenges messages₀ scratch₀ : List
       }
 
   -- a round's lengths: before it size is twice half, and half is 2 to the number of variables behind it
-  module _ (messages scratch : List ℕ) (size start j : ℕ)
-      (w : Progress n count places tables challenges messages₀ scratch₀ messages scratch size start j) (l : j < length challenges) where
+  module _ {messages scratch : List ℕ} {size j : ℕ}
+      (w : Progress n count places tables challenges messages₀ scratch₀ messages scratch size j) (l : j < length challenges) where
+    -- where its part starts
+    abbrev start : ℕ
+    start = j * (count + 1)
+
     abbrev ts : List (List ℕ)
     ts = parts count places tables
 
@@ -136,7 +138,7 @@ module _ (n count places : ℕ) (tables challenges messages₀ scratch₀ : List
     done_count = omega (arith, length-take j (true_polynomials n ts challenges), polynomials_count n ts challenges [])
 
     done_start : start ≡ length done * (count + 1)
-    done_start = w.start_is ∙ ap (λ (k : ℕ). k * (count + 1)) (sym done_count)
+    done_start = ap (λ (k : ℕ). k * (count + 1)) (sym done_count)
 
     more_room : (j + 1) * (count + 1) ≤ length messages₀
     more_room = omega (arith, mul-le-mul_right {m = j + 1} {n = length challenges} (count + 1) (omega arith), s.room)
@@ -145,11 +147,10 @@ module _ (n count places : ℕ) (tables challenges messages₀ scratch₀ : List
     pub place-room : start + (count + 1) ≤ length messages
     place-room = omega (
       arith,
-      w.start_is,
       more_room,
       ap length w.written,
       laid-length (count + 1) done messages₀ done_long
-          (omega (arith, done_start, w.start_is, more_room)),
+          (omega (arith, done_start, more_room)),
     )
 
     -- one polynomial more is written behind the others
@@ -176,16 +177,15 @@ module _ (n count places : ℕ) (tables challenges messages₀ scratch₀ : List
     scratch_long = omega (arith, w.long, s.scratch_room)
 
     -- after it
-    pub progress_turn : (messages' scratch' : List ℕ)
+    pub progress_turn : {messages' scratch' : List ℕ}
         → messages' ≡ take start messages ++ ((round_of n (size / 2) (parts count places scratch) ++ drop (count + 1)
         (take (length messages - start) (drop start messages))) ++ drop (length messages - start) (drop start messages))
         → scratch' ≡ laid places (map (folded_part n (get_or challenges j 0) (size / 2)) (parts count places scratch)) scratch
-        → Progress n count places tables challenges messages₀ scratch₀ messages' scratch' (size / 2) (start + (count + 1)) (j + 1)
-    progress_turn messages' scratch' em es =
+        → Progress n count places tables challenges messages₀ scratch₀ messages' scratch' (size / 2) (j + 1)
+    progress_turn em es =
         record {
           turns = omega arith;
           size_is = half_is ∙ ap (λ (i : ℕ). 2 ^ (length challenges - i)) (sym (add-one j));
-          start_is = omega (arith, w.start_is);
           written = em ∙ written_so;
           folded_so =
               ap₂ (λ (h : ℕ) (xs : List ℕ). fronts h (parts count places xs)) half_is es
@@ -203,10 +203,10 @@ module _ (n count places : ℕ) (tables challenges messages₀ scratch₀ : List
         }
 
   -- after the last round
-  pub progress_end : (messages scratch : List ℕ) (size start j : ℕ)
-      → Progress n count places tables challenges messages₀ scratch₀ messages scratch size start j → length challenges ≤ j
+  pub progress_end : {messages scratch : List ℕ} {size j : ℕ}
+      → Progress n count places tables challenges messages₀ scratch₀ messages scratch size j → length challenges ≤ j
       → messages ≡ join (true_polynomials n (parts count places tables) challenges) ++ drop (length challenges * (count + 1)) messages₀
-  progress_end messages scratch size start j w h =
+  progress_end {j = j} w h =
       w.written
       ∙ (ap (λ (ps : List (List ℕ)). laid (count + 1) ps messages₀)
       (take_all j (true_polynomials n (parts count places tables) challenges)
