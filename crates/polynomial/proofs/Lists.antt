@@ -5,9 +5,9 @@ use Prim.Native.Nat.{ℕ, zero, suc, ◌+◌, ◌%◌}
 use native.Mathlib.Nat.{mod-mod, zero-mod}
 use native.Mathlib.Omega.{arith}
 use lib.ListN.{take, drop}
-use Rattle.arithmetic.specs.Modulo.{add}
-use Rattle.arithmetic.proofs.Ring.{at, ◌⊕◌, same}
-use Rattle.arithmetic.proofs.Modulo.{zero-add-mod}
+use Rattle.arithmetic.specs.Modulo.{add, mul}
+use Rattle.arithmetic.proofs.Ring.{at, ◌⊕◌, ◌⊗◌, same}
+use Rattle.arithmetic.proofs.Modulo.{zero-add-mod, mul-zero-mod}
 use Rattle.polynomial.specs.Elements.{Every, sum}
 
 -- what holds of everything holds of every member
@@ -68,3 +68,10 @@ sum-add n g h (x ∷ xs) =
     ap (add n (add n (g x) (h x))) (sum-add n g h xs)
     ∙ same n (at (g x) ⊕ at (h x) ⊕ (at (sum n (map g xs)) ⊕ at (sum n (map h xs))))
     (at (g x) ⊕ at (sum n (map g xs)) ⊕ (at (h x) ⊕ at (sum n (map h xs)))) 0 0 (omega arith)
+
+-- the sum of multiples
+pub sum-mul : {A : Type 0} (n a : ℕ) (g : A → ℕ) (xs : List A) → sum n (map (λ (x : A). mul n a (g x)) xs) ≡ mul n a (sum n (map g xs))
+sum-mul n a g [] = sym (mul-zero-mod n a)
+sum-mul n a g (x ∷ xs) =
+    ap (add n (mul n a (g x))) (sum-mul n a g xs)
+    ∙ same n (at a ⊗ at (g x) ⊕ at a ⊗ at (sum n (map g xs))) (at a ⊗ (at (g x) ⊕ at (sum n (map g xs)))) 0 0 (omega arith)
