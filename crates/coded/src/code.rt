@@ -1,10 +1,9 @@
 // Answers in numbers: each answer of the library is converted to one of the structs.
 ghost use Rattle.std.specs.Prelude.{◌≡◌, MatchResult};
 ghost use Rattle.refusals.specs.Said.{number_of};
-ghost use Rattle.narrow_checker.specs.declared.failure.Failure.TheVariants.{Rejected, Refused};
 ghost use Rattle.narrow_steps.specs.Said.{state_of as checker_state};
 ghost use Rattle.narrow_file.specs.Narrow.{said as said_reply};
-ghost use Rattle.coded.specs.Coded.{with_value, with_round, turned_down, of_failure, of_head, of_state, state_of};
+ghost use Rattle.coded.specs.Coded.{with_value, turned_down, of_failure, of_head, of_state, state_of};
 
 use crate::{Answer, File, State, Stepped};
 use narrow_checker::Failure;

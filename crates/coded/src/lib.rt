@@ -15,7 +15,7 @@ pub struct Answer {
     pub value: u32,
 }
 
-// The checker's state. Any number but 0 is a rejected mark.
+// The checker's state, as C has it. Any number but 0 is a rejected mark.
 #[repr(C)]
 #[derive(Clone, Copy)]
 pub struct State {

@@ -5,7 +5,7 @@ use Rattle.std.specs.Prelude.{Ok, Err}
 use Rattle.refusals.specs.Pinned.{Pins}
 use Rattle.refusals.specs.Said.{number_of}
 use Rattle.refusals.specs.declared.refusal.Refusal.{Refusal}
-use Rattle.refusals.proofs.Pinned.{number_pins}
+use Rattle.refusals.proofs.Pinned.{refusal_pins}
 use Rattle.layout.specs.Bytes as bytes
 use Rattle.file_line.specs.OneLine.{meant, said}
 use Rattle.file_line.specs.declared.class.Class.{Class}
@@ -21,7 +21,7 @@ said_pins (Err r) (Ok b) e = cc
 said_pins (Err r) (Err s) e =
     let same : number_of r.refusal ≡ number_of s.refusal = cc in
     let line : r.line ≡ s.line = cc in
-    ap₂ (λ (refusal : Refusal) (line : ℕ). Err (record { refusal = refusal; line = line })) (number_pins r.refusal s.refusal same) line
+    ap₂ (λ (refusal : Refusal) (line : ℕ). Err (record { refusal = refusal; line = line })) (refusal_pins r.refusal s.refusal same) line
 
 -- the class that is meant says which one is answered
 abbrev back : bytes.Class → Class

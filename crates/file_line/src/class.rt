@@ -23,7 +23,7 @@ pub fn class_of(b: u8) -> Class
         b'0'..=b'9' => Class::Digit,
         b',' => Class::Comma,
         b'=' => Class::Equals,
-        10 => Class::LineEnd,
+        b'\n' => Class::LineEnd,
         b'a'..=b'z' => Class::Letter,
         _ => Class::Other,
     }

@@ -17,7 +17,8 @@ pub(crate) enum State {
 }
 
 impl State {
-    // What a byte of a class does to a line that is being read.
+    // What a byte of a class does to a line that is being read. Byte and class go side by side through the machine: the class is worked out once a byte,
+    // and a struct of the two would say no more.
     pub(crate) fn step(self, wanted: Wanted, class: Class, b: u8) -> State
         ensures { result ≡ step_of wanted (letters wanted.word) b (meant class) self }
     {

@@ -10,7 +10,7 @@ use narrow_field::modulo::{plus, times_plus};
 use std::array;
 
 // As many coefficients as the largest degree has.
-pub const COEFFICIENTS: usize = 4;
+pub const COEFFICIENTS: usize = refusals::MAX_DEGREE as usize + 1;
 
 // A message as an array.
 pub fn coefficients(message: &[u32]) -> [u32; COEFFICIENTS]

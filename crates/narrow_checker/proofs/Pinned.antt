@@ -4,7 +4,7 @@ use Prim.Native.Nat.{ℕ}
 use Rattle.std.specs.Prelude.{Ok, Err}
 use Rattle.refusals.specs.Pinned.{Pins}
 use Rattle.refusals.specs.declared.refusal.Refusal.{Refusal}
-use Rattle.refusals.proofs.Pinned.{number_pins}
+use Rattle.refusals.proofs.Pinned.{refusal_pins}
 use Rattle.narrow_checker.specs.Said.{said_by, said, said_rounds}
 use Rattle.narrow_checker.specs.declared.failure.Failure.TheVariants.{Refused, Rejected}
 
@@ -20,7 +20,7 @@ module _ {A B : Type 0} {value : A → B} {rejecting : ℕ → B} (one : Pins va
   by_pins (Err (Rejected i)) (Err (Refused r)) e = cc
   by_pins (Err (Refused q)) (Ok b) e = cc
   by_pins (Err (Refused q)) (Err (Rejected j)) e = cc
-  by_pins (Err (Refused q)) (Err (Refused r)) e = ap (λ (refusal : Refusal). Err (Refused refusal)) (number_pins q r cc)
+  by_pins (Err (Refused q)) (Err (Refused r)) e = ap (λ (refusal : Refusal). Err (Refused refusal)) (refusal_pins q r cc)
 
 pub said_pins : Pins said
 said_pins = by_pins (λ x y e. refl) (λ i j e. cc) (λ x j e. cc)

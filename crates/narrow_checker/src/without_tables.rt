@@ -40,10 +40,11 @@ impl Sent<'_> {
     {
         let mut running = self.claim;
         for (taken, &challenge) in self.challenges.iter().enumerate() {
+            // By its place: `chunks_exact` would ask that there is a coefficient at all, and the round is counted anyway.
             let start = taken * width;
             let c = coefficients(&self.messages[start..start + width]);
             if !sum_fits(c, running) {
-                // It fits: there are few rounds.
+                // It fits, as there are few rounds; `try_from` would want an answer for more.
                 return Err(Failure::Rejected(taken as u32 + 1));
             }
             running = value_at(c, challenge);

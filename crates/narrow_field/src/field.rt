@@ -16,54 +16,60 @@ pub fn is_outside(x: u32) -> bool
     P <= x
 }
 
-// Whether one of two numbers is no element.
-fn one_outside(a: u32, b: u32) -> bool
-    ensures { result ≡ outside p (a ∷ b ∷ []) }
+// Refusal 5 where a number is no element.
+fn element(x: u32) -> Result<(), Refusal>
+    ensures { said result ≡ decide (5 when outside p (x ∷ []) ∷ []) tt }
 {
-    is_outside(a) || is_outside(b)
-}
-
-// A value of elements: refusal 5 where some operand is none.
-fn judged(bad: bool, value: u32) -> Result<u32, Refusal>
-    ensures { said result ≡ decide (5 when bad ∷ []) value }
-{
-    if bad {
+    if is_outside(x) {
         return Err(Refusal::NoElement);
     }
-    Ok(value)
+    Ok(())
+}
+
+// Refusal 5 where one of two numbers is no element.
+fn elements(a: u32, b: u32) -> Result<(), Refusal>
+    ensures { said result ≡ decide (5 when outside p (a ∷ b ∷ []) ∷ []) tt }
+{
+    element(a)?;
+    element(b)
 }
 
 // a + b.
 pub fn sum(a: u32, b: u32) -> Result<u32, Refusal>
     ensures { said result ≡ sum_of a b }
 {
-    judged(one_outside(a, b), plus(a, b))
+    elements(a, b)?;
+    Ok(plus(a, b))
 }
 
 // a - b.
 pub fn difference(a: u32, b: u32) -> Result<u32, Refusal>
     ensures { said result ≡ difference_of a b }
 {
-    judged(one_outside(a, b), less(a, b))
+    elements(a, b)?;
+    Ok(less(a, b))
 }
 
 // -a.
 pub fn negative(a: u32) -> Result<u32, Refusal>
     ensures { said result ≡ negative_of a }
 {
-    judged(is_outside(a), minus(a))
+    element(a)?;
+    Ok(minus(a))
 }
 
 // a · b.
 pub fn product(a: u32, b: u32) -> Result<u32, Refusal>
     ensures { said result ≡ product_of a b }
 {
-    judged(one_outside(a, b), times(a, b))
+    elements(a, b)?;
+    Ok(times(a, b))
 }
 
 // a to the power e; 0 to the power 0 is 1.
 pub fn power(a: u32, e: u64) -> Result<u32, Refusal>
     ensures { said result ≡ power_of a e }
 {
-    judged(is_outside(a), to_power(a, e))
+    element(a)?;
+    Ok(to_power(a, e))
 }

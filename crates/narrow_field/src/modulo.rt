@@ -6,7 +6,7 @@ ghost use Rattle.narrow_field.specs.Narrow.{p};
 // The modulus as a u64. A constant cannot be made by `u64::from`.
 const P: u64 = super::P as u64;
 
-// x modulo p. What is left fits, so `as` it is: `try_from` would test it at every sum and product.
+// x modulo p. What is left fits; `try_from` would want an answer where it does not.
 fn reduced(x: u64) -> u32
     ensures { result ≡ x % p }
 {
@@ -70,7 +70,7 @@ pub fn to_power(a: u32, e: u64) -> u32
     while left != 0 {
         done = with_digit(done, base, left);
         base = times(base, base);
-        left = left / 2;
+        left /= 2;
     }
     done
 }

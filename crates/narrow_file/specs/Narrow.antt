@@ -49,5 +49,5 @@ told (file vars degree claim coefficients) = head vars degree claim
 told (refused_at number line) = refusal number line
 
 abbrev pub said : Result Head Fault → Reply
-said (Ok of_file) = head of_file.vars of_file.degree of_file.claim
+said (Ok h) = head h.vars h.degree h.claim
 said (Err refused) = refusal (number_of refused.refusal) refused.line

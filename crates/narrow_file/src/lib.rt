@@ -20,7 +20,8 @@ pub struct Head {
 }
 
 impl Head {
-    // How many coefficients the rounds of a file have. A `usize` has no `From<u32>`.
+    // How many coefficients the rounds of a file have, as narrow_lent's `messages_length` says of lent ones: the reader stands on no crate of the
+    // protocol. A `usize` has no `From<u32>`.
     fn places(self) -> usize
         ensures { result ≡ self.vars * (self.degree + 1) }
     {

@@ -49,7 +49,7 @@ fn number(bytes: &[u8], line: u32, word: Word, low: u32, high: u32) -> Result<(u
         high: u64::from(high),
     };
     let (last, rest) = one_line(bytes, wanted)?;
-    // It fits, being at most `high`.
+    // It fits, being at most `high`; `try_from` would want an answer for a number that does not come.
     Ok((last as u32, rest))
 }
 

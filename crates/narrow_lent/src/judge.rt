@@ -1,5 +1,5 @@
 // Judging what is lent (document 01, "When a call is turned down"): each test of the table of refusals once. Every function takes every input.
-ghost use Rattle.std.specs.Prelude.{◌≡◌, not, [], ◌∷◌, ◌*◌, eqb};
+ghost use Rattle.std.specs.Prelude.{◌≡◌, not, [], ◌∷◌, eqb};
 ghost use Rattle.refusals.specs.First.{◌when◌, first, outside};
 ghost use Rattle.refusals.specs.Said.{number_said};
 ghost use Rattle.sumcheck.specs.Lent.{bad_vars, bad_degree, tables_length};

@@ -34,7 +34,8 @@ impl<'a> Tables<'a> {
         })
     }
 
-    // The place of the first number that is no element, walking table by table and place by place; the list's length where there is none.
+    // The place of the first number that is no element, walking table by table and place by place; the list's length where there is none. The walk by
+    // tables and places is document 01's; a list that is no table is searched by `judge::is_outside`.
     fn first_outside(self) -> usize
         ensures { result ≡ first_outside p self.entry.numbers.now }
     {

@@ -10,6 +10,7 @@ use crate::shape::Shape;
 use narrow_tables::value::point_between;
 
 // The lower half of a table becomes the table folded by r. This is the one folding step: whoever folds calls it.
+// By place, since lower and upper place belong together; parted by `split_at_mut` the loop is no plainer.
 fn fold_table(table: &mut [u32], half: usize, r: u32)
     requires { half + half ≤ length table.old }
     ensures { table.new ≡ fold p r half table.old ++ drop half table.old }

@@ -1,6 +1,6 @@
 // The prover (document 01, "What is offered"): refusals 1, 2, 3, 4, 5 in that order, and no lent place touched before all are passed; then a round's
 // polynomial after the other, each into its own part of the lent message list, the tables folded in scratch, and scratch cleared.
-ghost use Rattle.std.specs.Prelude.{◌≡◌, ◌++◌, map, ◌+◌, ◌*◌, ◌^◌, ◌≤◌, ◌<◌, length, drop, replicate};
+ghost use Rattle.std.specs.Prelude.{◌≡◌, ◌++◌, map, ◌+◌, ◌*◌, ◌≤◌, ◌<◌, length, drop, replicate};
 ghost use Rattle.refusals.specs.Limits.{max_degree};
 ghost use Rattle.refusals.specs.Said.{said};
 ghost use Rattle.sumcheck.specs.TruePolynomial.{true_polynomials};
@@ -69,6 +69,7 @@ pub fn prove(
         × (scratch.new ≡ scratch_after p vars degree tables.now challenges.now messages.old scratch.old)) }
 {
     prover_refusal(vars, degree, tables, challenges, messages, scratch)?;
+    // Known to be right by now; `Tables::lent` would judge them again.
     let lent = Tables {
         numbers: tables,
         count: wide(degree),

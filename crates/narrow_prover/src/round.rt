@@ -20,7 +20,7 @@ impl Shape {
         let mut product: [u32; COEFFICIENTS] = [1, 0, 0, 0];
         for table in (0..self.count).rev() {
             let low = table * self.places + i;
-            // Through `next`: what a call gives is not laid straight over an array.
+            // Through `next`, here and in `round`: a call's array cannot be put straight into the one that the call has read.
             let next = line_times(product, tables[low], tables[low + self.half]);
             product = next;
         }

@@ -4,7 +4,7 @@ use Rattle.std.specs.Prelude.{Ok, Err}
 use Rattle.refusals.specs.First.{Answer}
 use Rattle.refusals.specs.Pinned.{Pins}
 use Rattle.refusals.specs.declared.refusal.Refusal.{Refusal}
-use Rattle.refusals.proofs.Pinned.{number_pins}
+use Rattle.refusals.proofs.Pinned.{refusal_pins}
 use Rattle.sumcheck.specs.Steps as Steps
 use Rattle.narrow_checker.proofs.Pinned.{by_pins, said_pins}
 use Rattle.narrow_steps.specs.Said.{state_of, said_back, said_opening, said_opened, said_step, said_stepped, said_closed}
@@ -15,7 +15,7 @@ pub opening_pins : Pins said_opening
 opening_pins (Ok x) (Ok y) e = refl
 opening_pins (Ok x) (Err r) e = cc
 opening_pins (Err r) (Ok x) e = cc
-opening_pins (Err q) (Err r) e = ap (λ (refusal : Refusal). Err refusal) (number_pins q r cc)
+opening_pins (Err q) (Err r) e = ap (λ (refusal : Refusal). Err refusal) (refusal_pins q r cc)
 
 pub step_pins : Pins said_step
 step_pins = by_pins (λ x y e. refl) (λ i j e. cc) (λ x j e. cc)

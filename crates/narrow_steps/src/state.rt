@@ -11,8 +11,9 @@ use narrow_field::field::is_outside;
 use narrow_lent::judge;
 use refusals::Refusal;
 
-// What the state holds: the shape, rounds taken, the running claim and a rejected mark.
-#[derive(Clone, Copy)]
+// What the state holds: the shape, rounds taken, the running claim and a rejected mark. The mark stands beside the rounds, as document 01 has it: a state
+// of any numbers and any mark has its answer.
+#[derive(Clone, Copy, Debug, PartialEq, Eq)]
 pub struct State {
     pub vars: u32,
     pub degree: u32,
@@ -22,7 +23,7 @@ pub struct State {
 }
 
 // What a call on a state hands back: the state, and its outcome.
-#[derive(Clone, Copy)]
+#[derive(Clone, Copy, Debug, PartialEq, Eq)]
 pub struct Back<O> {
     pub state: State,
     pub outcome: O,

@@ -47,7 +47,7 @@ impl State {
         if let Err(refusal) = self.step_refusal(message, challenge) {
             return Back {
                 state: self,
-                outcome: Err(Failure::Refused(refusal)),
+                outcome: Err(refusal.into()),
             };
         }
         let c = coefficients(message);

@@ -48,16 +48,16 @@ found_result (Ok x) = refl
 found_result (Err refusal) = found refusal
 
 -- no two results of nothing or a refusal have one number
-pub number_said_pins : Pins (number_said {A = Unit {0}})
-number_said_pins r r' e = sym (found_result r) ∙ (ap at e ∙ found_result r')
+pub number_pins : Pins (number_said {A = Unit {0}})
+number_pins r r' e = sym (found_result r) ∙ (ap at e ∙ found_result r')
 
 -- no two refusals have one number
-pub number_pins : Pins number_of
-number_pins r r' e = let same : ◌≡◌ {A = Result (Unit {0}) Refusal} (Err r) (Err r') = number_said_pins (Err r) (Err r') e in cc
+pub refusal_pins : Pins number_of
+refusal_pins r r' e = let same : ◌≡◌ {A = Result (Unit {0}) Refusal} (Err r) (Err r') = number_pins (Err r) (Err r') e in cc
 
 -- no two results say the same
 pub said_pins : {A : Type 0} → Pins (said {A = A})
 said_pins (Ok a) (Ok b) e = cc
 said_pins (Ok a) (Err r) e = cc
 said_pins (Err r) (Ok b) e = cc
-said_pins {A} (Err r) (Err r') e = let same : number_of r ≡ number_of r' = cc in ap (λ (refusal : Refusal). Err refusal) (number_pins r r' same)
+said_pins {A} (Err r) (Err r') e = let same : number_of r ≡ number_of r' = cc in ap (λ (refusal : Refusal). Err refusal) (refusal_pins r r' same)

@@ -122,7 +122,7 @@ sum-whole n half count h k us e =
     (every_of_map (Elements n) (term_at n half us) (count_from 0 half)
     (every (λ (i : ℕ). Elements n (term_at n half us i)) (λ (i : ℕ). elements-times_all n h (map (line_at n half i) us)) (count_from 0 half)))
 
--- the loop over the tables: its start, a turn, and its end
+-- the loop over the tables: its start, and a turn
 pub term_first : (n half i places count top : ℕ) (xs : List ℕ)
     → (1 % n) ∷ replicate top 0 ≡ term_left n half i places count count xs ++ replicate (top - (count - count)) 0
 term_first n half i places count top xs =
