@@ -6,7 +6,7 @@ ghost use Rattle.sumcheck.proofs.Laid.{laid};
 ghost use Rattle.sumcheck.proofs.FoldedParts.{folded_part};
 ghost use Rattle.narrow_field.specs.Narrow.{p};
 
-use crate::shape::Shape;
+use crate::folding::Folding;
 use narrow_tables::value::point_between;
 
 // The lower half of a table becomes the table folded by r. This is the one folding step: whoever folds calls it.
@@ -20,7 +20,7 @@ fn fold_table(table: &mut [u32], half: usize, r: u32)
     }
 }
 
-impl Shape {
+impl Folding {
     // Each table is folded in its lower half.
     pub(crate) fn fold(self, tables: &mut [u32], r: u32)
         requires { self.count * self.places ≤ length tables.old }

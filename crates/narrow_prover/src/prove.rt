@@ -13,13 +13,13 @@ ghost use Rattle.sumcheck.proofs.RoundFolded.{round_of};
 ghost use Rattle.narrow_field.specs.Narrow.{p};
 ghost use Rattle.narrow_lent.specs.Tables.{lists};
 
-use crate::shape::Shape;
+use crate::folding::Folding;
 use narrow_lent::lengths::{size, wide};
 use narrow_lent::prover::prover_refusal;
 use narrow_lent::tables::Tables;
 use refusals::Refusal;
 
-impl Shape {
+impl Folding {
     // One round: its polynomial is written to the front of its part of the message list, and the tables are folded by its challenge.
     fn write_round(self, part: &mut [u32], tables: &mut [u32], r: u32)
         requires { (0 < self.half) × (self.count * self.places ≤ length tables.old) × (self.count + 1 ≤ length part.old) }
@@ -45,12 +45,12 @@ fn run(lent: Tables, challenges: &[u32], messages: &mut [u32], scratch: &mut [u3
     for (j, &r) in challenges.iter().enumerate() {
         let start = j * (lent.count + 1);
         size /= 2;
-        let shape = Shape {
+        let folding = Folding {
             count: lent.count,
             places: lent.places,
             half: size,
         };
-        shape.write_round(&mut messages[start..], scratch, r);
+        folding.write_round(&mut messages[start..], scratch, r);
     }
     scratch[..lent.numbers.len()].fill(0);
 }

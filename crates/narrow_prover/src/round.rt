@@ -7,11 +7,11 @@ ghost use Rattle.sumcheck.specs.Lent.{parts};
 ghost use Rattle.sumcheck.proofs.RoundFolded.{term_at};
 ghost use Rattle.narrow_field.specs.Narrow.{p};
 
-use crate::shape::Shape;
+use crate::folding::Folding;
 use narrow_array::array::{added, line_times};
 use narrow_array::round::COEFFICIENTS;
 
-impl Shape {
+impl Folding {
     // The product of the tables' lines at place i.
     fn term(self, tables: &[u32], i: usize) -> [u32; COEFFICIENTS]
         requires { (i < self.half) × (self.count * self.places ≤ length tables.now) }

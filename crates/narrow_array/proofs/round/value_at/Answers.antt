@@ -3,7 +3,7 @@ use Rattle.std.proofs.Common.{rules, ◌∙◌}
 use Rattle.std.proofs.lemmas.Iterator.Adapters.{YieldsList-from_rev_slice}
 use Rattle.std.proofs.lemmas.Iterator.Consumers.{fold_from_yields_List}
 use Rattle.narrow_field.specs.Narrow.{p}
-use Rattle.narrow_array.proofs.Horner.{below, horner}
+use Rattle.polynomial.proofs.Horner.{below, horner}
 use Rattle.narrow_array.proofs.round.value_at.Goals as goal
 
 pub returns : goal.returns

@@ -10,8 +10,8 @@ loop-j-init c =
     progress_start c.requires.1
     (ap (λ (r : List ℕ). r ++ drop (length c.args.lent.numbers.now) c.args.scratch.now) c.copy_from_slice.ensures.after)
 
-pub invariant_of-shape-clause-both_halves : goal.invariant_of-shape-clause-both_halves
-invariant_of-shape-clause-both_halves c = double_places c.requires.1 c.loop-j.invariant c.loop-j-test.true
+pub invariant_of-folding-clause-both_halves : goal.invariant_of-folding-clause-both_halves
+invariant_of-folding-clause-both_halves c = double_places c.requires.1 c.loop-j.invariant c.loop-j-test.true
 
 pub write_round-requires : goal.write_round-requires
 write_round-requires c =

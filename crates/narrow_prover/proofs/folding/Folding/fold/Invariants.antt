@@ -1,10 +1,10 @@
--- `narrow_prover::fold::Shape::fold`: the first tables are folded, each in its place.
+-- `narrow_prover::fold::Folding::fold`: the first tables are folded, each in its place.
 use Rattle.std.proofs.Common.{◌≡◌, map}
 use Rattle.sumcheck.specs.Lent.{parts}
 use Rattle.sumcheck.proofs.FoldedParts.{folded_part}
 use Rattle.sumcheck.proofs.Laid.{laid}
 use Rattle.narrow_field.specs.Narrow.{p}
-use Rattle.narrow_prover.proofs.shape.Shape.fold.Given as goal
+use Rattle.narrow_prover.proofs.folding.Folding.fold.Given as goal
 
 abbrev pub invariant-loop-table : goal.invariant-loop-table
 invariant-loop-table l =

@@ -5,7 +5,7 @@ ghost use Rattle.refusals.specs.Limits.{max_degree};
 // `count` tables of `places` places each, one after the other. What a round still sees of a table is a lower half and an upper half right above it,
 // `half` places each. How long a list must be for them is said where one is lent.
 #[derive(Clone, Copy)]
-pub(crate) struct Shape {
+pub(crate) struct Folding {
     pub count: usize,
     pub places: usize,
     pub half: usize,

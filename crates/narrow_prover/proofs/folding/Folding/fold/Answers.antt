@@ -1,11 +1,11 @@
--- `narrow_prover::fold::Shape::fold` meets its contract: the first tables are folded, each in its place. Assumes nothing.
+-- `narrow_prover::fold::Folding::fold` meets its contract: the first tables are folded, each in its place. Assumes nothing.
 use Rattle.std.proofs.Common.{◌≡◌, ℕ, ◌+◌, ◌-◌, ◌*◌, ◌≤◌, List, ◌++◌, length, take, drop, refl, ap, ◌∙◌}
 use native.Mathlib.Nat.{mul-le-mul_right}
 use native.Mathlib.Omega.{arith}
 use Rattle.sumcheck.proofs.FoldedParts.{folded_part, folded_part-length}
 use Rattle.sumcheck.proofs.Laid.{changed_none, changed_more}
 use Rattle.narrow_field.specs.Narrow.{p}
-use Rattle.narrow_prover.proofs.shape.Shape.fold.Goals as goal
+use Rattle.narrow_prover.proofs.folding.Folding.fold.Goals as goal
 
 -- a folded table keeps its length
 keeps : (r half places : ℕ) → half + half ≤ places → (u : List ℕ) → length u ≡ places → length (folded_part p r half u) ≡ places

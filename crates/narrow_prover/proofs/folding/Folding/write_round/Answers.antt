@@ -1,4 +1,4 @@
--- `narrow_prover::prove::Shape::write_round` meets its contract: the first places of the array are the polynomial, and the tables are folded after it is
+-- `narrow_prover::prove::Folding::write_round` meets its contract: the first places of the array are the polynomial, and the tables are folded after it is
 -- made. Assumes nothing.
 use Rattle.std.proofs.Common.{ℕ, ◌+◌, ◌-◌, List, ◌++◌, take, drop, ap, ◌∙◌}
 use native.Mathlib.Omega.{arith}
@@ -6,7 +6,7 @@ use Rattle.sumcheck.specs.Lent.{parts}
 use Rattle.sumcheck.proofs.Laid.{parts_count}
 use Rattle.sumcheck.proofs.Terms.{sum_taken}
 use Rattle.narrow_field.specs.Narrow.{p}
-use Rattle.narrow_prover.proofs.shape.Shape.write_round.Goals as goal
+use Rattle.narrow_prover.proofs.folding.Folding.write_round.Goals as goal
 
 pub returns : goal.returns
 returns c =

@@ -1,4 +1,4 @@
--- `narrow_prover::round::Shape::round` meets its contract: the sum over the places from i on. Assumes nothing.
+-- `narrow_prover::round::Folding::round` meets its contract: the sum over the places from i on. Assumes nothing.
 use Rattle.std.proofs.Common.{◌≡◌, ℕ, ◌+◌, ◌-◌, replicate, sym, ap, ap₂, ◌∙◌}
 use native.Mathlib.Omega.{arith}
 use Rattle.polynomial.specs.Polynomial.{plus}
@@ -6,7 +6,7 @@ use Rattle.sumcheck.specs.Lent.{parts}
 use Rattle.sumcheck.proofs.Laid.{parts_count}
 use Rattle.sumcheck.proofs.Terms.{sum_start, sum_step}
 use Rattle.narrow_field.specs.Narrow.{p}
-use Rattle.narrow_prover.proofs.shape.Shape.round.Goals as goal
+use Rattle.narrow_prover.proofs.folding.Folding.round.Goals as goal
 
 pub loop-i-init : goal.loop-i-init
 loop-i-init c =
