@@ -10,7 +10,8 @@ use super::lengths::{size, wide};
 use narrow_field::P;
 use refusals::Refusal;
 
-// So many tables, each of so many numbers.
+// So many tables, each of so many numbers: the one numbered k begins at k · places. A method that gives it would ask that there is one, and no public
+// function asks for anything.
 #[derive(Clone, Copy)]
 pub struct Tables<'a> {
     pub numbers: &'a [u32],
