@@ -6,9 +6,7 @@ use Rattle.sumcheck.proofs.Progress.{progress_start, progress_turn, progress_end
 use Rattle.narrow_prover.proofs.prove.run.Goals as goal
 
 pub loop-j-init : goal.loop-j-init
-loop-j-init c =
-    progress_start c.requires.1
-    (ap (λ (r : List ℕ). r ++ drop (length c.args.lent.numbers.now) c.args.scratch.now) c.copy_from_slice.ensures.after)
+loop-j-init c = progress_start c.requires.1 c.lay.ensures
 
 pub invariant_of-folding-clause-both_halves : goal.invariant_of-folding-clause-both_halves
 invariant_of-folding-clause-both_halves c = double_places c.requires.1 c.loop-j.invariant c.loop-j-test.true
