@@ -1,5 +1,5 @@
 -- A conversion's clause says of each answer of the library what specs/Coded says of it. Assumes nothing.
-use mathlib.Core.Path.{◌≡◌, ap₂}
+use mathlib.Core.Path.{◌≡◌, sym, ap₂, ◌∙◌}
 use Prim.Native.Nat.{ℕ}
 use Rattle.std.specs.Prelude.{Result, Ok, Err, MatchResult}
 use Rattle.refusals.specs.Said.{number_of, said}
@@ -18,6 +18,12 @@ use Rattle.coded.specs.declared.Stepped.{Stepped}
 -- what converting a result gives, from what converting its value and its error gives
 abbrev pub Converts : {T E : Type 0} → (T → Answer) → (E → Answer) → Result T E → Answer → Type 0
 Converts value error r a = MatchResult r (λ x. a ≡ value x) (λ e. a ≡ error e)
+
+-- so it leaves one answer, whatever the value and the error
+pub converts_once : {T E : Type 0} (value : T → Answer) (error : E → Answer) (r : Result T E) (a b : Answer)
+    → Converts value error r a → Converts value error r b → a ≡ b
+converts_once value error (Ok x) a b e f = e ∙ sym f
+converts_once value error (Err x) a b e f = e ∙ sym f
 
 -- a value or nothing, and a refusal
 abbrev refusal_of : Refusal → Answer
