@@ -2,7 +2,7 @@
 // of the library is converted to one of them.
 #![tactic(auto)]
 
-mod code;
+pub mod code;
 
 // An answer in numbers. kind 0: given, done, accepted or reached, with the value where there is one; 1: rejected, number is the round; 2: refused,
 // number is the refusal, line its line where it has one.

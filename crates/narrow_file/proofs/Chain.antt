@@ -87,7 +87,7 @@ vars_read s = ap (λ (line : layout.Line). reading_then (line_at 3 line s) (λ n
 pub degree_read : (v : ℕ) (s : List ℕ) → from_degree narrow v s
     ≡ reading_then (line_at 4 (line_wanted (one_number Degree 4 1 max_degree)) s) (λ ns rest. from_claim narrow v (only ns) rest)
 unfolding from_degree
-degree_read v s = ap (λ (line : layout.Line). reading_then (line_at 4 line s) (λ ns rest. from_claim narrow v (only ns) rest)) (sym degree_line_lem)
+degree_read v s = refl
 
 pub claim_read : (v d : ℕ) (s : List ℕ) → from_claim narrow v d s
     ≡ reading_then (line_at 5 (line_wanted (one_number Claim 5 0 (p - 1))) s) (λ ns rest. from_rounds narrow v d (only ns) rest)

@@ -14,6 +14,7 @@ ghost use Rattle.narrow_field.specs.Narrow.{p};
 ghost use Rattle.narrow_lent.specs.Tables.{lists};
 
 use crate::folding::Folding;
+use crate::memory::copy;
 use narrow_lent::lengths::{size, wide};
 use narrow_lent::prover::prover_refusal;
 use narrow_lent::tables::Tables;
@@ -33,16 +34,6 @@ impl Folding {
     }
 }
 
-// The tables are laid into the front of scratch, place by place: with `copy_from_slice` the archive would ask its caller for `memmove`.
-fn lay(numbers: &[u32], scratch: &mut [u32])
-    requires { length numbers.now ≤ length scratch.old }
-    ensures { scratch.new ≡ numbers.now ++ drop (length numbers.now) scratch.old }
-{
-    for i in 0..numbers.len() {
-        scratch[i] = numbers[i];
-    }
-}
-
 // All rounds, once nothing is refused.
 fn run(lent: Tables, challenges: &[u32], messages: &mut [u32], scratch: &mut [u32])
     requires { (lent.count ≤ max_degree) × Setting p lent.count lent.places lent.numbers.now challenges.now messages.old scratch.old }
@@ -50,7 +41,7 @@ fn run(lent: Tables, challenges: &[u32], messages: &mut [u32], scratch: &mut [u3
         (messages.new ≡ join (true_polynomials p (lists t) challenges.now) ++ drop (length challenges.now * (t.count + 1)) messages.old)
         × (scratch.new ≡ replicate (t.count * t.places) 0 ++ drop (t.count * t.places) scratch.old) }
 {
-    lay(lent.numbers, scratch);
+    copy(lent.numbers, scratch);
     let mut size = lent.places;
     for (j, &r) in challenges.iter().enumerate() {
         let start = j * (lent.count + 1);

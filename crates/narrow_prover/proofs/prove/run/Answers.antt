@@ -6,7 +6,7 @@ use Rattle.sumcheck.proofs.Progress.{progress_start, progress_turn, progress_end
 use Rattle.narrow_prover.proofs.prove.run.Goals as goal
 
 pub loop-j-init : goal.loop-j-init
-loop-j-init c = progress_start c.requires.1 c.lay.ensures
+loop-j-init c = progress_start c.requires.1 c.copy.ensures
 
 pub invariant_of-folding-clause-both_halves : goal.invariant_of-folding-clause-both_halves
 invariant_of-folding-clause-both_halves c = double_places c.requires.1 c.loop-j.invariant c.loop-j-test.true
