@@ -66,9 +66,15 @@ impl State {
             claim,
             rejected: false,
         };
+        if let Err(refusal) = state.doubt() {
+            return Back {
+                state,
+                outcome: Err(refusal),
+            };
+        }
         Back {
             state,
-            outcome: state.doubt(),
+            outcome: Ok(()),
         }
     }
 }
